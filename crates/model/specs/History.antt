@@ -1,0 +1,241 @@
+-- Histories and cuts: 01's section of that name, and demand 3 as two claims. `crates/history` proves them.
+use mathlib.Core.Path.{_≡_}
+use Prim.Native.Nat.{ℕ, zero, suc}
+use mathlib.Core.Bool.{Bool, true, false, cond, _&&_, not}
+use mathlib.Core.List.{List, [], _∷_, _++_}
+use mathlib.Core.Option.{Option, none, some}
+use lib.Dec.{leb, eqb}
+use lib.ListN.{length, take}
+use Rattle.model.specs.Choice.{given, every}
+use Rattle.model.specs.Number.{Bytes, AreBytes, number, isNegative}
+use Rattle.model.specs.Order.{sameBytes}
+use Rattle.model.specs.Run.{value}
+use Rattle.model.specs.Kind.{kindNumber}
+use Rattle.model.specs.Shape.{logged}
+use Rattle.model.specs.Record.{Rec, Got, read, onGot}
+use Rattle.model.specs.Key.{topicKey}
+use Rattle.model.specs.Map.{get}
+use Rattle.model.specs.Contents.{Entry, topic, part, plain, key, Contents}
+use Rattle.model.specs.Image.{isCapacity, isImage, contentsOf, imageOf, openOf}
+use Rattle.model.specs.Move.{partitionTopic, replicas, nodeCount}
+use Rattle.model.specs.Validate.{validateOf}
+use Rattle.model.specs.Apply.{applyOf}
+use Rattle.model.specs.Snapshot.{snapshotOf, restoreOf, restored}
+use Rattle.model.specs.Lookup.{topicByName, topicById, partitionOf, brokerOf, epochOf, shortOf, freezeOf, throttleOf}
+use Rattle.model.specs.Downgrade.{downgradeOf}
+use Rattle.model.specs.Reply.{Reply, accepted, Ended}
+use Rattle.model.specs.declared.Kind.the-variants.{FeaturesEpoch}
+
+-- 1. Steps
+
+-- each with its own inputs and output buffer
+pub data Step : Type 0 where
+  -- a record's bytes, any bytes: validated, then applied where Validate says 0
+  give : Bytes → Step
+  -- lookups: a name, an id, a topic and a number, a node, each with an output; a node and a kind byte
+  askTopic : Bytes → Bytes → Step
+  askTopicId : Bytes → Bytes → Step
+  askPartition : Bytes → ℕ → Bytes → Step
+  askBroker : ℕ → Bytes → Step
+  askEpoch : Step
+  askShort : Step
+  askFreeze : Bytes → Bytes → Step
+  askThrottle : ℕ → ℕ → Step
+  -- the listing for a level, and a snapshot, each with an output
+  askDowngrade : ℕ → Bytes → Step
+  snap : Bytes → Step
+  -- a snapshot into a buffer of its own, restored into another
+  cut : Bytes → Bytes → Step
+
+pub data Answer : Type 0 where
+  -- Validate's reply and, exactly where that is 0, Apply's
+  verdict : Reply → Option Reply → Answer
+  said : Reply → Answer
+  wrote : Ended → Answer
+
+-- "A record step gives any bytes to Validate and, exactly where that says 0, to Apply; their numbers are its verdict."
+abbrev pub admitted : Bytes → Bytes → Bool
+admitted input image = eqb (validateOf image input .number) 0
+
+abbrev pub judged : Bytes → Bytes → Answer
+judged input image = verdict (validateOf image input) (cond (admitted input image) (some (applyOf image input .reply)) none)
+
+abbrev pub imageAfter : Bytes → Bytes → Bytes
+imageAfter input image = cond (admitted input image) (applyOf image input .buffer) image
+
+-- the bytes that an operation said it wrote
+abbrev pub firstValue : List ℕ → ℕ
+firstValue [] = 0
+firstValue (n ∷ ns) = n
+
+abbrev pub written : Ended → Bytes
+written e = take (firstValue (e .reply .values)) (e .buffer)
+
+-- "A cut is Snapshot into a buffer of its own, then Restore of exactly the bytes it wrote, into another buffer of the image's capacity, whatever
+-- that held; the next step gets that one. Where Snapshot says 19 there is no cut and nothing changes"
+unfoldable pub cutImage : Bytes → Bytes → Bytes → Bytes
+cutImage own other image =
+    cond (eqb (snapshotOf image own .reply .number) 0) (restoreOf (written (snapshotOf image own)) other .buffer) image
+
+-- what a step answers, and the image that the next step gets
+unfoldable pub answer : Step → Bytes → List Answer
+answer (give input) image = judged input image ∷ []
+answer (askTopic name out) image = wrote (topicByName image name out) ∷ []
+answer (askTopicId id out) image = wrote (topicById image id out) ∷ []
+answer (askPartition name n out) image = wrote (partitionOf image name n out) ∷ []
+answer (askBroker node out) image = wrote (brokerOf image node out) ∷ []
+answer askEpoch image = said (epochOf image) ∷ []
+answer askShort image = said (shortOf image) ∷ []
+answer (askFreeze name out) image = wrote (freezeOf image name out) ∷ []
+answer (askThrottle node which) image = said (throttleOf image node which) ∷ []
+answer (askDowngrade level out) image = wrote (downgradeOf image level out) ∷ []
+answer (snap out) image = wrote (snapshotOf image out) ∷ []
+answer (cut own other) image = []
+
+unfoldable pub after : Step → Bytes → Bytes
+after (give input) image = imageAfter input image
+after (cut own other) image = cutImage own other image
+after (askTopic name out) image = image
+after (askTopicId id out) image = image
+after (askPartition name n out) image = image
+after (askBroker node out) image = image
+after askEpoch image = image
+after askShort image = image
+after (askFreeze name out) image = image
+after (askThrottle node which) image = image
+after (askDowngrade level out) image = image
+after (snap out) image = image
+
+-- 2. Histories
+
+unfoldable pub run : List Step → Bytes → List Answer
+run [] image = []
+run (s ∷ steps) image = answer s image ++ run steps (after s image)
+
+-- the image that a history reaches
+unfoldable pub reached : List Step → Bytes → Bytes
+reached [] image = image
+reached (s ∷ steps) image = reached steps (after s image)
+
+unfoldable pub isCut : Step → Bool
+isCut (cut own other) = true
+isCut (give input) = false
+isCut (askTopic name out) = false
+isCut (askTopicId id out) = false
+isCut (askPartition name n out) = false
+isCut (askBroker node out) = false
+isCut askEpoch = false
+isCut askShort = false
+isCut (askFreeze name out) = false
+isCut (askThrottle node which) = false
+isCut (askDowngrade level out) = false
+isCut (snap out) = false
+
+-- "Its uncut history is the same list without the cuts."
+unfoldable pub uncut : List Step → List Step
+uncut [] = []
+uncut (s ∷ steps) = cond (isCut s) (uncut steps) (s ∷ uncut steps)
+
+-- 3. The premises
+
+-- "no stored topics share an id"
+unfoldable pub hasId : Bytes → Entry → Bool
+hasId i (topic name id count factor named) = sameBytes id i
+hasId i (part r) = false
+hasId i (plain r) = false
+
+unfoldable pub idsApart : List Entry → Bool
+idsApart [] = true
+idsApart (topic name id count factor named ∷ l) = every (λ e. not (hasId id e)) l && idsApart l
+idsApart (part r ∷ l) = idsApart l
+idsApart (plain r ∷ l) = idsApart l
+
+-- "every partition has its topic's replication factor of replicas"
+unfoldable pub factorIs : ℕ → Option Entry → Bool
+factorIs n none = true
+factorIs n (some (topic name id count factor named)) = eqb factor n
+factorIs n (some (part r)) = true
+factorIs n (some (plain r)) = true
+
+unfoldable pub factorHolds : List Entry → Entry → Bool
+factorHolds l (topic name id count factor named) = true
+factorHolds l (part r) = factorIs (nodeCount (replicas r)) (get key (topicKey (partitionTopic r)) l)
+factorHolds l (plain r) = true
+
+unfoldable pub premises : Contents → Bool
+premises c = idsApart (c .real) && every (factorHolds (c .real)) (c .real)
+
+-- "no epoch record is negative": no record of kind 13 that a step gives
+unfoldable pub epochMild : Bytes → Bool
+epochMild input =
+    onGot (read logged input) (λ n. true) λ r n. cond (eqb (kindNumber (r .kind)) (kindNumber FeaturesEpoch)) (not (isNegative 8 (number (value 1 (r .run))))) true
+
+-- "room never runs out": no Apply says 18
+unfoldable pub roomLasts : Bytes → Bytes → Bool
+roomLasts input image = not (admitted input image && eqb (applyOf image input .reply .number) 18)
+
+unfoldable pub stepHolds : Step → Bytes → Bool
+stepHolds (give input) image = epochMild input && roomLasts input image
+stepHolds (cut own other) image = true
+stepHolds (askTopic name out) image = true
+stepHolds (askTopicId id out) image = true
+stepHolds (askPartition name n out) image = true
+stepHolds (askBroker node out) image = true
+stepHolds askEpoch image = true
+stepHolds askShort image = true
+stepHolds (askFreeze name out) image = true
+stepHolds (askThrottle node which) image = true
+stepHolds (askDowngrade level out) image = true
+stepHolds (snap out) image = true
+
+-- of every image that a step gets
+unfoldable pub holds : List Step → Bytes → Bool
+holds [] image = true
+holds (s ∷ steps) image = premises (contentsOf image) && stepHolds s image && holds steps (after s image)
+
+-- 4. What is given: records that are bytes, and restore buffers of the image's capacity
+
+abbrev pub StepGiven : ℕ → Step → Type 0
+StepGiven capacity (give input) = AreBytes input
+StepGiven capacity (cut own other) = length other ≡ capacity
+StepGiven capacity (askTopic name out) = Unit {0}
+StepGiven capacity (askTopicId id out) = Unit {0}
+StepGiven capacity (askPartition name n out) = Unit {0}
+StepGiven capacity (askBroker node out) = Unit {0}
+StepGiven capacity askEpoch = Unit {0}
+StepGiven capacity askShort = Unit {0}
+StepGiven capacity (askFreeze name out) = Unit {0}
+StepGiven capacity (askThrottle node which) = Unit {0}
+StepGiven capacity (askDowngrade level out) = Unit {0}
+StepGiven capacity (snap out) = Unit {0}
+
+abbrev pub Given : ℕ → List Step → Type 0
+Given capacity [] = Unit {0}
+Given capacity (s ∷ steps) = StepGiven capacity s × Given capacity steps
+
+-- 5. Demand 3
+
+-- "For every history, refused steps included, wherever its cuts fall and however many there are, every other step answers exactly as in the
+-- uncut history"
+abbrev pub CutsUnseen : Type 0
+CutsUnseen =
+    (buffer : Bytes) → isCapacity (length buffer) ≡ true → (steps : List Step) → Given (length buffer) steps →
+    holds (uncut steps) (openOf buffer .buffer) ≡ true →
+    run steps (openOf buffer .buffer) ≡ run (uncut steps) (openOf buffer .buffer)
+
+-- "Without those premises, whatever image is cut becomes exactly the one that 01 names": of any image
+abbrev pub CutBecomesRestored : Type 0
+CutBecomesRestored =
+    (image own other : Bytes) → AreBytes image → isImage image ≡ true → length other ≡ length image →
+    cond (eqb (snapshotOf image own .reply .number) 0)
+    (restoreOf (written (snapshotOf image own)) other ≡ record { reply = accepted []; buffer = imageOf (length image) (restored (contentsOf image)) })
+    (cutImage own other image ≡ image)
+
+-- and of any image that a history reaches
+abbrev pub CutAnywhere : Type 0
+CutAnywhere =
+    (buffer : Bytes) → isCapacity (length buffer) ≡ true → (steps : List Step) → Given (length buffer) steps →
+    (own other : Bytes) → length other ≡ length buffer →
+    let image = reached steps (openOf buffer .buffer) in
+    eqb (snapshotOf image own .reply .number) 0 ≡ true →
+    reached (steps ++ (cut own other ∷ [])) (openOf buffer .buffer) ≡ imageOf (length buffer) (restored (contentsOf image))

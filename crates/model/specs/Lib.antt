@@ -1,0 +1,52 @@
+-- 01 as definitions, a file for each of its sections. Nothing here is about code.
+--
+-- "Leaves first", the document's conventions
+--   integers, big-endian and two's complement ............ Number
+--   strings are UTF-8 ..................................... Text
+-- "Record bytes"
+--   a kind byte, a two-byte body length, and fields ....... Record.recordBytes; a tag byte, a two-byte length, the value: Run.bytesOf
+--   tags in declaration order, ascending, options left out  Shape.rowsOf, Shape.mayFollow
+--   widths, bools, enums, lists, nested runs .............. Shape.Form, Shape.leafFault, Shape.nestedFault
+--   map keys strictly ascend .............................. Shape.ascends
+--   the kinds and their numbers ........................... Kind
+--   the limits ............................................ Shape.stringLimit and its neighbours
+-- "How the image moves"
+--   each kind's rule ...................................... Move.plan, with the moves' effects in Move.onReal, onEmpties, onFixed
+--   freeze, throttle, short ............................... Lookup.freezeBy, Lookup.throttle, Lookup.isShort
+--   downgrade to a level .................................. Downgrade.downgrade
+--   a snapshot's groups and keys .......................... Key.rank, Key.subject, Order.compareKeys
+--   the restored image .................................... Snapshot.restored
+-- "Room"
+--   weight ................................................ Contents.weight
+--   equal contents are equal bytes, unused ones zero ...... Image.imageOf
+--   a buffer is an image exactly if ....................... Image.isImage, with Contents.sound and Contents.storable
+-- "Operations and what they refuse"
+--   0, a refusal's buffers, a written prefix, 19 .......... Reply.unchanged, Reply.emitBytes
+--   Open, Read, Write, Validate, Apply .................... Image.openOf, Record.readOf, Record.writeOf, Validate.validateOf, Apply.applyOf
+--   Snapshot, Restore ..................................... Snapshot.snapshotOf, Snapshot.restoreOf
+--   lookups ............................................... Lookup.topicByName and its neighbours
+--   Downgrade ............................................. Downgrade.downgradeOf
+-- "Histories and cuts"
+--   steps, answers, the uncut history, the premises ....... History.Step, answer, uncut, holds
+--   demand 3 .............................................. History.CutsUnseen, CutBecomesRestored, CutAnywhere
+pub mod Choice
+pub mod Number
+pub mod Text
+pub mod Run
+pub mod Order
+pub mod Kind
+pub mod Shape
+pub mod Reply
+pub mod Record
+pub mod Key
+pub mod Map
+pub mod Contents
+pub mod Items
+pub mod Image
+pub mod Move
+pub mod Validate
+pub mod Apply
+pub mod Snapshot
+pub mod Lookup
+pub mod Downgrade
+pub mod History

@@ -1,0 +1,36 @@
+// The plain types that the operations share. What they mean stands in `specs/`.
+
+// The 25 kinds of record that move an image, by the Rust's names.
+pub enum Kind {
+    Topic,
+    Partition,
+    BrokerRegistration,
+    DeleteTopic,
+    TopicConfig,
+    BrokerConfig,
+    ClientQuota,
+    ProducerIds,
+    UnregisterBroker,
+    KRaftVersion,
+    FeatureLevel,
+    ClientMetricsConfig,
+    FeaturesEpoch,
+    PartitionDirAssignment,
+    PartitionOffsetAdvance,
+    GroupConfig,
+    ControllerRegistration,
+    TopicFreeze,
+    BreakGlassProposal,
+    DeleteBreakGlassProposal,
+    PartitionElr,
+    PartitionRecovery,
+    PartitionUpdate,
+    BrokerRegistrationChange,
+    UnregisterController,
+}
+
+// A broker's or controller's number. Never taken for a leader epoch.
+pub struct NodeId(pub u64);
+
+// A partition's leader epoch. Never taken for a node.
+pub struct LeaderEpoch(pub i32);

@@ -1,0 +1,271 @@
+//! The values of a record's fields.
+
+use std::collections::BTreeMap;
+
+use krabka_metadata::{BreakGlassApproval, BrokerEndpoint, ListenerProtocol, NodeId, QuotaEntity};
+use uuid::Uuid;
+
+use super::Generator;
+
+pub const TOPICS: [&str; 9] = ["p", "q", "room", "room-7", "__room", "_r", "é", "𝄞-1", ""];
+
+pub const SCOPES: [&str; 13] = [
+    "", "_", "__", "r", "ro", "room", "room-", "room-7", "__room", "p", "é", "𝄞", "\u{0}",
+];
+
+const TEXTS: [&str; 8] = ["", "a", "b", "ab", "é", "𝄞", "\u{0}", "User:alice"];
+
+const CONFIG_NAMES: [&str; 6] = [
+    "leader.replication.throttled.rate",
+    "follower.replication.throttled.rate",
+    "replica.alter.log.dirs.io.max.bytes.per.second",
+    "k",
+    "",
+    "é",
+];
+
+const CONFIG_VALUES: [&str; 20] = [
+    "5",
+    "+5",
+    "-0",
+    "-1",
+    "",
+    "+",
+    "-",
+    " 5",
+    "5 ",
+    "00012",
+    "9223372036854775807",
+    "9223372036854775808",
+    "-9223372036854775808",
+    "-9223372036854775809",
+    "1e3",
+    "0x10",
+    "٣",
+    "+-1",
+    "1_000",
+    "5\n",
+];
+
+const NODES: [u64; 9] = [1, 2, 3, 4, 1, 2, 0, 1 << 63, u64::MAX];
+
+/// Zeros, infinities, a quiet NaN and signalling ones, a subnormal.
+const QUOTAS: [u64; 9] = [
+    0,
+    1 << 63,
+    0x3FF0_0000_0000_0000,
+    0x7FF0_0000_0000_0000,
+    0xFFF0_0000_0000_0000,
+    0x7FF8_0000_0000_0000,
+    0x7FF0_0000_0000_0001,
+    0xFFF4_0000_DEAD_BEEF,
+    1,
+];
+
+impl Generator {
+    pub(super) fn extreme(&mut self) -> bool {
+        self.random.percent(self.knobs.extreme)
+    }
+
+    /// A list's length: mostly below 4, sometimes the limit.
+    pub(super) fn length(&mut self, limit: usize) -> usize {
+        if self.extreme() {
+            return limit;
+        }
+        self.random.below(4)
+    }
+
+    pub(super) fn text_of(&mut self, pool: &[&str]) -> String {
+        if self.extreme() {
+            return self.long_text();
+        }
+        self.random.pick(pool).to_owned()
+    }
+
+    /// 255 bytes, or as many with a character of four at the end.
+    fn long_text(&mut self) -> String {
+        match self.flag() {
+            true => "n".repeat(255),
+            false => "n".repeat(251) + "𝄞",
+        }
+    }
+
+    pub(super) fn text(&mut self) -> String {
+        self.text_of(&TEXTS)
+    }
+
+    pub(super) fn config_name(&mut self) -> String {
+        self.text_of(&CONFIG_NAMES)
+    }
+
+    pub(super) fn config_value(&mut self) -> String {
+        self.text_of(&CONFIG_VALUES)
+    }
+
+    pub(super) fn flag(&mut self) -> bool {
+        self.random.percent(50)
+    }
+
+    /// A value in `percent` of the draws.
+    pub(super) fn maybe<T>(
+        &mut self,
+        percent: u64,
+        draw: impl FnOnce(&mut Self) -> T,
+    ) -> Option<T> {
+        self.random.percent(percent).then(|| draw(self))
+    }
+
+    pub(super) fn i64(&mut self) -> i64 {
+        if self.extreme() {
+            return self
+                .random
+                .pick(&[i64::MIN, i64::MIN + 1, i64::MAX, i64::MAX - 1]);
+        }
+        self.random.below(8) as i64 - 2
+    }
+
+    pub(super) fn i32(&mut self) -> i32 {
+        if self.extreme() {
+            return self
+                .random
+                .pick(&[i32::MIN, i32::MIN + 1, i32::MAX, i32::MAX - 1]);
+        }
+        self.random.below(6) as i32 - 1
+    }
+
+    pub(super) fn i16(&mut self) -> i16 {
+        if self.extreme() {
+            return self
+                .random
+                .pick(&[i16::MIN, i16::MIN + 1, i16::MAX, i16::MAX - 1]);
+        }
+        self.random.below(6) as i16 - 1
+    }
+
+    pub(super) fn u16(&mut self) -> u16 {
+        if self.extreme() {
+            return u16::MAX;
+        }
+        self.random.below(4) as u16
+    }
+
+    /// A partition's number: few, so that partitions meet again.
+    pub(super) fn partition_number(&mut self) -> i32 {
+        if self.extreme() {
+            return self.i32();
+        }
+        self.random.below(3) as i32
+    }
+
+    pub(super) fn node(&mut self) -> NodeId {
+        NodeId(self.random.pick(&NODES))
+    }
+
+    pub(super) fn some_nodes(&mut self, count: usize) -> Vec<NodeId> {
+        (0..count).map(|_| self.node()).collect()
+    }
+
+    pub(super) fn nodes(&mut self) -> Vec<NodeId> {
+        let count = self.length(64);
+        self.some_nodes(count)
+    }
+
+    /// One of few ids; the first is `MIGRATING`.
+    pub(super) fn id(&mut self) -> Uuid {
+        let high = self.random.pick(&[0, 0, 0, u64::MAX]);
+        Uuid::from_u64_pair(high, self.random.below(4) as u64)
+    }
+
+    pub(super) fn ids(&mut self) -> Vec<Uuid> {
+        let count = self.length(64);
+        (0..count).map(|_| self.id()).collect()
+    }
+
+    pub(super) fn signature(&mut self) -> Vec<u8> {
+        let count = self.length(512);
+        (0..count).map(|_| self.random.bits() as u8).collect()
+    }
+
+    pub(super) fn quota(&mut self) -> f64 {
+        let bits = self.random.pick(&QUOTAS);
+        f64::from_bits(if self.extreme() {
+            self.random.bits()
+        } else {
+            bits
+        })
+    }
+
+    /// A map's keys: few from the pool, or 64 of 2 or of 255 bytes.
+    fn keys(&mut self) -> Vec<String> {
+        if !self.extreme() {
+            let count = self.random.below(3);
+            return (0..count).map(|_| self.config_name()).collect();
+        }
+        let width = self.random.pick(&[2, 255]);
+        (0..64).map(|n| format!("{n:0width$}")).collect()
+    }
+
+    /// Keys at the limit have values at the limit.
+    pub(super) fn configs(&mut self) -> BTreeMap<String, String> {
+        let keys = self.keys();
+        let value = |g: &mut Self, key: &str| match key.len() {
+            255 => g.long_text(),
+            _ => g.config_value(),
+        };
+        keys.into_iter()
+            .map(|key| (key.clone(), value(self, &key)))
+            .collect()
+    }
+
+    pub(super) fn features(&mut self) -> BTreeMap<String, (i16, i16)> {
+        let keys = self.keys();
+        keys.into_iter()
+            .map(|key| (key, (self.i16(), self.i16())))
+            .collect()
+    }
+
+    pub(super) fn endpoints(&mut self) -> Vec<BrokerEndpoint> {
+        let count = self.length(16);
+        (0..count).map(|_| self.endpoint()).collect()
+    }
+
+    fn endpoint(&mut self) -> BrokerEndpoint {
+        BrokerEndpoint {
+            name: self.text(),
+            host: self.text(),
+            port: self.u16(),
+            protocol: self.random.pick(&[
+                ListenerProtocol::Plaintext,
+                ListenerProtocol::Ssl,
+                ListenerProtocol::SaslPlaintext,
+                ListenerProtocol::SaslSsl,
+            ]),
+        }
+    }
+
+    /// Entities of few types, so that equal types meet in one list.
+    pub(super) fn entities(&mut self) -> Vec<QuotaEntity> {
+        let count = self.length(8);
+        (0..count).map(|_| self.entity()).collect()
+    }
+
+    fn entity(&mut self) -> QuotaEntity {
+        QuotaEntity {
+            entity_type: self.text_of(&["user", "client-id", "user", "ip", ""]),
+            entity_name: self.maybe(65, |g| g.text_of(&["a", "b", ""])),
+        }
+    }
+
+    pub(super) fn approvals(&mut self, count: usize) -> Vec<BreakGlassApproval> {
+        (0..count).map(|_| self.approval()).collect()
+    }
+
+    fn approval(&mut self) -> BreakGlassApproval {
+        BreakGlassApproval {
+            principal: self.text(),
+            approved_at_ms: self.i64(),
+            key_id: self.text(),
+            signature: self.signature(),
+        }
+    }
+}

@@ -1,0 +1,9 @@
+//! The reference's answers in the scope paper's (01's) terms: what an image
+//! holds, in 01's order; verdicts as 01's numbers; generated histories; facts.
+
+pub mod facts;
+pub mod generate;
+pub mod kind;
+pub mod observe;
+pub mod order;
+pub mod verdict;

@@ -1,0 +1,42 @@
+//! The reference's verdicts as 01's numbers.
+
+use krabka_metadata::{MetadataError, MetadataImage, MetadataRecord};
+
+pub const ACCEPTED: u8 = 0;
+
+/// What `validate` says, as 01 numbers it: 0, or 6 to 16.
+pub fn verdict(image: &MetadataImage, record: &MetadataRecord) -> u8 {
+    match image.validate(record) {
+        Ok(()) => ACCEPTED,
+        Err(MetadataError::TopicExists(_)) => 6,
+        Err(MetadataError::UnknownTopic(_)) => 7,
+        Err(MetadataError::InvalidRecord(text)) => invalid_record(record, text),
+        Err(MetadataError::EmptyFreezeScope) => 13,
+        Err(MetadataError::BreakGlassProposalConsumed(_)) => 14,
+        Err(MetadataError::BreakGlassProposalWithdrawn(_)) => 15,
+        Err(MetadataError::BreakGlassApprovalsNotAnExtension(_)) => 16,
+        Err(error) => panic!("a verdict that 01 does not number: {error}"),
+    }
+}
+
+/// The kind tells these apart, and the text the two of ProducerIds.
+fn invalid_record(record: &MetadataRecord, text: &str) -> u8 {
+    match record {
+        MetadataRecord::V1BrokerRegistrationChange(_) => 8,
+        MetadataRecord::V1UnregisterBroker(_) => 9,
+        MetadataRecord::V1UnregisterController(_) => 10,
+        MetadataRecord::V1ProducerIds(_) if text.contains("monotonically") => 11,
+        MetadataRecord::V1ProducerIds(_) if text.contains("stale broker epoch") => 12,
+        _ => panic!("a verdict that 01 does not number: {text}"),
+    }
+}
+
+/// Whether `apply` would add an offset out of i64, 01's refusal 17. The
+/// reference panics or wraps there, as its build has overflow checks or not.
+pub fn offset_leaves_i64(image: &MetadataImage, record: &MetadataRecord) -> bool {
+    let MetadataRecord::V1PartitionOffsetAdvance(advance) = record else {
+        return false;
+    };
+    let offset = image.partition_next_offset(&advance.topic, advance.partition);
+    offset.unwrap_or(0).checked_add(advance.count).is_none()
+}

@@ -1,0 +1,15 @@
+//! The record bytes of docs/FORMAT.md: the shape table, a reader, and the
+//! reference's records to bytes and back.
+
+mod damage;
+mod decode;
+mod encode;
+mod read;
+mod run;
+pub mod table;
+
+pub use damage::damaged;
+pub use decode::decode;
+pub use encode::encode;
+pub use read::{HEADER, OVER_A_LIMIT, PAST_THE_END, UNKNOWN_KIND, WRONG_FIELD, read};
+pub use run::Run;

@@ -1,0 +1,105 @@
+//! No bytes make the reader panic, and what it accepts has one encoding.
+
+use krabka_metadata::MetadataRecord;
+use wire::{HEADER, PAST_THE_END, damaged, decode, encode, read};
+
+use crate::samples;
+
+/// The bytes of the filled and of the emptied records.
+fn good() -> Vec<Vec<u8>> {
+    let filled = samples::filled().into_iter().map(|(record, _)| record);
+    let records: Vec<MetadataRecord> = filled.chain(samples::emptied()).collect();
+    records.iter().flat_map(encode).collect()
+}
+
+/// The bytes are refused with one of `read`'s numbers, or they decode to a
+/// record that encodes to them again.
+fn holds(bytes: &[u8]) {
+    let answer = read(bytes);
+    match decode(bytes) {
+        Ok((record, used)) => {
+            assert_eq!(answer, Ok(used));
+            assert_eq!(encode(&record).unwrap(), bytes[..used]);
+        }
+        Err(number) => {
+            assert_eq!(answer, Err(number));
+            assert!((2..=5).contains(&number), "{bytes:?}");
+        }
+    }
+}
+
+#[test]
+fn a_cut_record_runs_past_the_end() {
+    for bytes in good() {
+        for length in 0..bytes.len() {
+            assert_eq!(read(&bytes[..length]), Err(PAST_THE_END));
+        }
+    }
+}
+
+#[test]
+fn cut_bodies_hold() {
+    for bytes in good() {
+        for length in HEADER..bytes.len() {
+            let mut cut = bytes[..length].to_vec();
+            let body = u16::try_from(length - HEADER).unwrap();
+            cut[1..HEADER].copy_from_slice(&body.to_be_bytes());
+            holds(&cut);
+        }
+    }
+}
+
+#[test]
+fn changed_bytes_hold() {
+    for mut bytes in good() {
+        for place in 0..bytes.len() {
+            let kept = bytes[place];
+            for byte in 0..=u8::MAX {
+                bytes[place] = byte;
+                holds(&bytes);
+            }
+            bytes[place] = kept;
+        }
+    }
+}
+
+/// A linear congruential generator whose high bits are handed out.
+fn numbers(seed: u64) -> impl FnMut() -> u64 {
+    let mut state = seed;
+    move || {
+        state = state
+            .wrapping_mul(6_364_136_223_846_793_005)
+            .wrapping_add(1_442_695_040_888_963_407);
+        state >> 33
+    }
+}
+
+#[test]
+fn damaged_records_hold() {
+    let rng = &mut numbers(1);
+    let good = good();
+    let mut answers = [0; 6];
+    for _ in 0..2_000 {
+        for bytes in &good {
+            let once = damaged(rng, bytes);
+            let twice = damaged(rng, &once);
+            holds(&once);
+            holds(&twice);
+            answers[usize::from(read(&once).err().unwrap_or(0))] += 1;
+        }
+    }
+    for number in [0, 2, 3, 4, 5] {
+        assert!(answers[number] > 100, "{answers:?}");
+    }
+}
+
+#[test]
+fn any_bytes_can_be_damaged() {
+    let rng = &mut numbers(2);
+    for length in 0..8 {
+        let bytes: Vec<u8> = (0..length).collect();
+        for _ in 0..1_000 {
+            holds(&damaged(rng, &bytes));
+        }
+    }
+}
