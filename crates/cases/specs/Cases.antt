@@ -6,6 +6,7 @@ use lib.ListN.{length, take, replicate}
 use Rattle.model.specs.Number.{Bytes, number, bytes}
 use Rattle.model.specs.Run as Run
 use Rattle.model.specs.Run.{done, item, runOf, value}
+use Rattle.model.specs.Choice as Choice
 use Rattle.model.specs.Text as Text
 use Rattle.model.specs.Order as Order
 use Rattle.model.specs.Kind as Kind
@@ -185,7 +186,7 @@ unfolding cases Text.wellFormed Text.following Text.textAfter Run.parse Run.byte
     Shape.mayFollow Shape.isBelowByte Shape.leafFault Shape.runFault Shape.valueFault Shape.shapeOf Reply.emitBytes Record.recordBytes
     Record.read Record.readOf Record.gathered Record.writeOf Key.rank Key.entitiesKey Key.subject Key.keyOf Key.keyRank Key.keyName
     Key.topicOf Key.groupKey Key.startsWith Map.put Map.get Map.remove Map.keep Map.any Map.count Map.ascending Contents.shown
-    Contents.kept Contents.key Contents.groupOf Contents.ofTopic Contents.partitions Contents.size Contents.total Contents.weight
+    Contents.kept Contents.key Contents.groupOf Contents.ofTopic Contents.partitions Contents.size Choice.total Contents.weight
     Contents.typesInOrder Contents.storable Contents.isGroup Contents.storableEntry Contents.namesId Contents.namedApart Contents.sound
     Items.itemsFrom Items.records Items.isWhole Image.isCapacity Image.mark Image.header Image.entryBytes Image.imageOf Image.entryOf
     Image.flagReads Image.realOf Image.emptiesOf Image.contentsOf Image.headerOk Image.entriesOk Image.isImage Image.openOf Move.unname
@@ -193,7 +194,7 @@ unfolding cases Text.wellFormed Text.following Text.textAfter Run.parse Run.byte
     Move.moves Move.fields Move.updateMoves Move.changedBroker Move.slotOf Move.directoryMoves Move.insertEntity Move.sortedEntities
     Move.sortedQuota Move.plan Move.moved Move.overflows Validate.topicExists Validate.extends Validate.alone Validate.against
     Validate.judge Validate.validateOf Apply.apply Apply.applyOf Snapshot.emit Snapshot.epochRecords Snapshot.kraftRecords
-    Snapshot.snapshot Snapshot.snapshotOf Snapshot.replay Snapshot.restoreOf Snapshot.folded Snapshot.lastFactor Snapshot.restoredFactor
+    Snapshot.snapshot Snapshot.snapshotOf Snapshot.replay Snapshot.restoreOf Choice.folded Snapshot.lastFactor Snapshot.restoredFactor
     Snapshot.lastOwner Snapshot.ownerOf Snapshot.restoredEntry Snapshot.isLevel Snapshot.levels Snapshot.lessOne Snapshot.restoredEpoch
     Snapshot.restored Lookup.topicByName Lookup.namedBy Lookup.topicById Lookup.partitionOf Lookup.brokerOf Lookup.epochOf Lookup.isShort
     Lookup.shortCount Lookup.shortOf Lookup.beginsWith Lookup.longestBy Lookup.freezeBy Lookup.freeze Lookup.freezeOf Lookup.throttleName

@@ -1,5 +1,5 @@
 -- Choices that the rules are written with.
-use Prim.Native.Nat.{ℕ, zero, suc, Ordering, Ordering·lt, Ordering·eq, Ordering·gt}
+use Prim.Native.Nat.{ℕ, zero, suc, _+_, Ordering, Ordering·lt, Ordering·eq, Ordering·gt}
 use mathlib.Core.Bool.{Bool, true, false, cond, _&&_}
 use mathlib.Core.List.{List, [], _∷_, _++_}
 use mathlib.Core.Option.{Option, none, some}
@@ -46,3 +46,13 @@ joined f (x ∷ xs) = f x ++ joined f xs
 abbrev pub isEmpty : {A : Type 0} → List A → Bool
 isEmpty [] = true
 isEmpty (x ∷ xs) = false
+
+-- the sum of each element's number
+unfoldable pub total : {A : Type 0} → (A → ℕ) → List A → ℕ
+total f [] = 0
+total f (x ∷ l) = f x + total f l
+
+-- the value after the last element
+unfoldable pub folded : {A B : Type 0} → (B → A → B) → B → List A → B
+folded f b [] = b
+folded f b (x ∷ l) = folded f (f b x) l

@@ -5,7 +5,7 @@ use mathlib.Core.List.{List, [], _∷_, _++_, map}
 use mathlib.Core.Option.{Option, none, some}
 use lib.Dec.{leb, ltb, eqb}
 use lib.ListN.{length}
-use Rattle.model.specs.Choice.{isSome, isEmpty, every}
+use Rattle.model.specs.Choice.{isSome, isEmpty, every, total}
 use Rattle.model.specs.Number.{Bytes, number, bytes, span, half, isNegative}
 use Rattle.model.specs.Order.{Key, compareBytes, isBelow, sameBytes}
 use Rattle.model.specs.Run.{Run, done, item, items, runOf, field, value, values, setField, dropField}
@@ -98,10 +98,6 @@ unfoldable pub size : Entry → ℕ
 size (topic name id count factor named) = length (recordBytes (shown (topic name id count factor named))) + 8
 size (part r) = length (recordBytes (rec Partition r))
 size (plain r) = cond (isProducerIds r) 0 (length (recordBytes r))
-
-unfoldable pub total : {A : Type 0} → (A → ℕ) → List A → ℕ
-total f [] = 0
-total f (x ∷ l) = f x + total f l
 
 unfoldable pub weight : Contents → ℕ
 weight c = fixedRoom + total size (c .real) + total (λ r. length (recordBytes r)) (c .empties)

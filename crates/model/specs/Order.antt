@@ -3,6 +3,14 @@ use Prim.Native.Nat.{ℕ, compare, Ordering, Ordering·lt, Ordering·eq, Orderin
 use mathlib.Core.Bool.{Bool, true, false}
 use mathlib.Core.List.{List, [], _∷_}
 use Rattle.model.specs.Number.{Bytes}
+use Rattle.model.specs.declared.Order.{Order}
+use Rattle.model.specs.declared.Order.the-variants.{Less, Equal, Greater}
+
+-- what the code's answer means
+abbrev pub ordering : Order → Ordering
+ordering Less = Ordering·lt
+ordering Equal = Ordering·eq
+ordering Greater = Ordering·gt
 
 -- the second comparison decides where the first finds no difference
 abbrev pub thenBy : Ordering → Ordering → Ordering

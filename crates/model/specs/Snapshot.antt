@@ -5,7 +5,7 @@ use mathlib.Core.List.{List, [], _∷_, _++_, map}
 use mathlib.Core.Option.{Option, none, some}
 use lib.Dec.{leb, eqb}
 use lib.ListN.{length}
-use Rattle.model.specs.Choice.{joined}
+use Rattle.model.specs.Choice.{joined, folded}
 use Rattle.model.specs.Number.{Bytes, number, bytes, span, isNegative}
 use Rattle.model.specs.Order.{Key, sameBytes}
 use Rattle.model.specs.Run.{Run, done, item, value}
@@ -74,11 +74,6 @@ unfoldable pub restoreOf : Bytes → Bytes → Ended
 restoreOf input b = cond (isCapacity (length b)) (laidOut (length b) (replay (length b) (itemsOf logged input) fresh)) (unchanged 1 b)
 
 -- 3. The restored image
-
--- the value after the last element
-unfoldable pub folded : {A B : Type 0} → (B → A → B) → B → List A → B
-folded f b [] = b
-folded f b (x ∷ l) = folded f (f b x) l
 
 -- "its replication factor is its highest partition's replica count, if it has one": partitions ascend, so the last of the topic is the highest
 unfoldable pub lastFactor : Bytes → ℕ → Entry → ℕ

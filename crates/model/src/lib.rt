@@ -29,6 +29,13 @@ pub enum Kind {
     UnregisterController,
 }
 
+// How two byte strings, or two keys, stand to each other.
+pub enum Order {
+    Less,
+    Equal,
+    Greater,
+}
+
 // A broker's or controller's number. Never taken for a leader epoch.
 pub struct NodeId(pub u64);
 

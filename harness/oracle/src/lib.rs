@@ -3,6 +3,7 @@
 
 pub mod facts;
 pub mod generate;
+pub mod image;
 pub mod kind;
 pub mod observe;
 pub mod order;

@@ -1,0 +1,1 @@
+// Laws of the definitions: numbers, orders, maps. See `specs/`.

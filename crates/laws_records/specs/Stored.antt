@@ -1,0 +1,28 @@
+-- Records as an image stores them: as they are logged, but for a topic's one field more.
+use mathlib.Core.Path.{_≡_, refl}
+use mathlib.Core.Bool.{Bool, true, false}
+use Prim.Native.Nat.{ℕ}
+use borrow.Author.Tests.{ne-eqb}
+use Rattle.model.specs.Number.{Bytes}
+use Rattle.model.specs.Run.{Run, done, item}
+use Rattle.model.specs.Kind.{kindNumber}
+use Rattle.model.specs.declared.Kind.{Kind}
+use Rattle.model.specs.declared.Kind.the-variants.{Topic}
+use Rattle.model.specs.Shape.{rowsOf, anyRequired, mayFollow, leafFault, runFault, valueFault, logged, stored, shapeOf, fault}
+use Rattle.model.specs.Contents.{topicRun, flagBytes}
+use Rattle.laws_records.specs.Kinds.{number-injective}
+
+module _ (kind : Kind) (apart : kind ≡ Topic → ⊥) where
+  pub shape-stored : shapeOf stored kind ≡ shapeOf logged kind
+  unfolding shapeOf kindNumber
+  shape-stored = rw (ne-eqb (kindNumber kind) 1 (λ e. apart (number-injective kind Topic e)))
+
+  pub fault-stored : (run : Run) → fault stored kind run ≡ fault logged kind run
+  fault-stored run = rw shape-stored
+
+pub fault-topic : (name id : Bytes) (count factor : ℕ) (named : Bool)
+    → fault stored Topic (topicRun name id count factor (item 5 (flagBytes named) done))
+    ≡ fault logged Topic (topicRun name id count factor done)
+unfolding rowsOf shapeOf kindNumber anyRequired mayFollow leafFault valueFault runFault
+fault-topic name id count factor true = refl
+fault-topic name id count factor false = refl

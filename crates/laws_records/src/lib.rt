@@ -1,0 +1,1 @@
+// Laws of the record bytes: fields and their bytes, reading and writing. See `specs/`.

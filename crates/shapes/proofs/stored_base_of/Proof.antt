@@ -1,0 +1,22 @@
+-- `shapes::stored_base_of` meets its contract: only the topic's stored shape differs from its record's.
+use borrow.Author.Needs.{needs}
+use mathlib.Core.Path.{_≡_, refl, sym, _∙_}
+use Rattle.model.specs.Kind.{kindOf, kinds, kindNumber}
+use Rattle.model.specs.Shape.{shapeOf}
+use Rattle.shapes.specs.Table.{kindBase, baseOf}
+use Rattle.shapes.proofs.Bases.{base-stored}
+use Rattle.shapes.proofs.stored_base_of.Statement.{statement}
+use Rattle.shapes.proofs.stored_base_of.Tie as tie
+
+returns : tie.Need-returns
+unfolding kindBase baseOf kindOf kinds kindNumber shapeOf
+returns c = rw (c .if1 .taken)
+
+base-of-requires : tie.Need-base-of-requires
+base-of-requires c κs = search needs
+
+returns-2 : tie.Need-returns-2
+returns-2 c = c .base-of .ensures ∙ sym (base-stored _ (c .before .if1 .left))
+
+pub stored-base-of-spec : {M : Type 1} → statement M
+stored-base-of-spec = tie.close (tie.spec returns base-of-requires returns-2)

@@ -1,0 +1,97 @@
+//! The image's bytes, built from what the reference holds.
+
+use krabka_metadata::{BrokerConfigRecord, ClientQuotaRecord, MetadataRecord, NodeId, QuotaEntity};
+use wire::encode;
+
+use crate::observe::Observed;
+
+/// What a fresh image weighs, and the least capacity.
+pub const FIXED_ROOM: usize = 128;
+pub const MOST_CAPACITY: usize = 65_536;
+pub const HEAD_SIZE: usize = 64;
+const MARK: [u8; 8] = *b"KRABKA\x00\x01";
+
+/// What the contents weigh.
+pub fn weight(observed: &Observed) -> usize {
+    let entries = observed.records.iter().map(|record| match record {
+        MetadataRecord::V1ProducerIds(_)
+        | MetadataRecord::V1FeaturesEpoch(_)
+        | MetadataRecord::V1KRaftVersion(_) => 0,
+        MetadataRecord::V1Topic(_) => bytes(record).len() + 8,
+        _ => bytes(record).len(),
+    });
+    let groups = groups(observed);
+    FIXED_ROOM + entries.sum::<usize>() + groups.iter().map(Vec::len).sum::<usize>()
+}
+
+/// The image of these contents at a capacity, where they fit it.
+pub fn image(observed: &Observed, capacity: usize) -> Option<Vec<u8>> {
+    let room = FIXED_ROOM..=MOST_CAPACITY;
+    if !room.contains(&capacity) || weight(observed) > capacity {
+        return None;
+    }
+    let entries = entries(observed);
+    let mut image = header(observed, HEAD_SIZE + entries.len());
+    image.extend(entries);
+    image.resize(capacity, 0);
+    Some(image)
+}
+
+fn header(observed: &Observed, used: usize) -> Vec<u8> {
+    let used = u32::try_from(used).expect("an image is at most 64 KB");
+    let mut header = MARK.to_vec();
+    header.extend(used.to_be_bytes());
+    header.extend([0; 4]);
+    header.extend(observed.epoch.to_be_bytes());
+    header.extend(observed.kraft.to_be_bytes());
+    header.resize(HEAD_SIZE, 0);
+    header
+}
+
+/// The stored entries, then the empty groups.
+fn entries(observed: &Observed) -> Vec<u8> {
+    let stored = observed.records.iter().filter_map(|record| match record {
+        MetadataRecord::V1FeaturesEpoch(_) | MetadataRecord::V1KRaftVersion(_) => None,
+        MetadataRecord::V1Topic(topic) => Some(flagged(record, observed.named[&topic.name])),
+        _ => Some(bytes(record)),
+    });
+    stored.chain(groups(observed)).flatten().collect()
+}
+
+/// A topic's entry: its record with tag 5, four zeros and the flag.
+fn flagged(record: &MetadataRecord, named: bool) -> Vec<u8> {
+    let mut entry = bytes(record);
+    entry.extend([5, 0, 5, 0, 0, 0, 0, u8::from(named)]);
+    let body = u16::try_from(entry.len() - 3).expect("a topic is short");
+    entry[1..3].copy_from_slice(&body.to_be_bytes());
+    entry
+}
+
+/// Each empty group's record: an empty name and no value.
+fn groups(observed: &Observed) -> Vec<Vec<u8>> {
+    let configs = observed.empty_brokers.iter().map(|node| empty_config(*node));
+    let quotas = observed.empty_quotas.iter().map(|entity| {
+        let entity = entity.iter().map(|(entity_type, entity_name)| QuotaEntity {
+            entity_type: entity_type.clone(),
+            entity_name: entity_name.clone(),
+        });
+        MetadataRecord::V1ClientQuota(ClientQuotaRecord {
+            entity: entity.collect(),
+            config_key: String::new(),
+            config_value: None,
+        })
+    });
+    configs.chain(quotas).map(|record| bytes(&record)).collect()
+}
+
+fn empty_config(node_id: NodeId) -> MetadataRecord {
+    MetadataRecord::V1BrokerConfig(BrokerConfigRecord {
+        node_id,
+        config_name: String::new(),
+        config_value: None,
+    })
+}
+
+fn bytes(record: &MetadataRecord) -> Vec<u8> {
+    encode(record).expect("an image holds no record that 01 leaves out")
+}
