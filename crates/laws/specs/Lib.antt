@@ -5,3 +5,6 @@ pub mod Numbers
 pub mod Map
 pub mod Count
 pub mod Split
+pub mod Ids
+pub mod Ranks
+pub mod Freeze

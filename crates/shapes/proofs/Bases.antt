@@ -29,7 +29,7 @@ past h n = omega arith
 
 -- of other kinds than 1 the stored shape is the record's
 stored-same : (k : ℕ) (o : Option Kind) → kindOf k ≡ o → (k ≡ 1 → ⊥)
-  → given o rowCount (λ n. baseOf (shapeOf stored n)) ≡ given o rowCount (λ n. baseOf (shapeOf logged n))
+    → given o rowCount (λ n. baseOf (shapeOf stored n)) ≡ given o rowCount (λ n. baseOf (shapeOf logged n))
 unfolding shapeOf
 stored-same k none e h = refl
 stored-same k (some n) e h = rw (ne-eqb (kindNumber n) 1 (λ q. h (sym (number-kind k n e) ∙ q)))

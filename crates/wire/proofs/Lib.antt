@@ -1,1 +1,5 @@
 pub mod Numbers
+pub mod Rest
+pub mod Laid
+pub mod Leads
+pub mod Ranges

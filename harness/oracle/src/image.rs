@@ -69,7 +69,10 @@ fn flagged(record: &MetadataRecord, named: bool) -> Vec<u8> {
 
 /// Each empty group's record: an empty name and no value.
 fn groups(observed: &Observed) -> Vec<Vec<u8>> {
-    let configs = observed.empty_brokers.iter().map(|node| empty_config(*node));
+    let configs = observed
+        .empty_brokers
+        .iter()
+        .map(|node| empty_config(*node));
     let quotas = observed.empty_quotas.iter().map(|entity| {
         let entity = entity.iter().map(|(entity_type, entity_name)| QuotaEntity {
             entity_type: entity_type.clone(),

@@ -1,8 +1,7 @@
 -- `wire::get` meets its contract. The invariant: what v and the bytes still to come spell is what all spell.
 use Prim.Native.Nat.{_+_, _-_, _*_, _^_, _≤_, _<_}
-use mathlib.Core.Path.{_≡_, refl, ap, _∙_, sym}
+use mathlib.Core.Path.{_≡_}
 use native.Mathlib.Omega.{arith}
-use lib.ListN.{length}
 use lib.Seq.{slice}
 use lib.Dec.{lit<}
 use native.Mathlib.Nat.{add-zero}
@@ -10,9 +9,6 @@ use Rattle.model.specs.Number.{spelt, number, span}
 use Rattle.wire.proofs.Numbers.{span-step, span-fits, spelt-step, spelt-end}
 use Rattle.wire.proofs.get.Statement.{statement}
 use Rattle.wire.proofs.get.Tie as tie
-use Rattle.wire.proofs.get.Reads as reads
-use Rattle.wire.proofs.get.Lts as lts
-use Rattle.wire.proofs.wide.Reads as wide-reads
 
 abbrev Inv-loop : tie.InvT-loop
 Inv-loop s at width v₀ i₀ v i = (i ≤ width) × (v < span i) × (spelt v (slice (at + i) (at + width) s) ≡ number (slice at (at + width) s))

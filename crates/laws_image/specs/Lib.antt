@@ -1,0 +1,14 @@
+pub mod Fits
+pub mod Kinds
+pub mod Ranks
+pub mod Required
+pub mod Orderly
+pub mod Entries
+pub mod Weight
+pub mod Header
+pub mod Tests
+pub mod Image
+pub mod Exact
+pub mod Open
+pub mod Snapshot
+pub mod Groups

@@ -1,0 +1,128 @@
+//! Writes the input and the expected output of the program `read_vectors`: records, good and damaged, and what the harness's own reader says of
+//! them. From the repository's root:
+//!
+//!     cargo run --manifest-path harness/Cargo.toml --example read_vectors -- crates/read_vectors
+
+use std::fmt::Write;
+use std::{env, fs};
+
+use oracle::generate::{Generator, Knobs};
+use wire::{damaged, encode, read};
+
+const SEED: u64 = 4;
+const GOOD: usize = 260;
+
+fn main() {
+    let folder = env::args().nth(1).expect("the program's folder");
+    let inputs = inputs();
+    let mut stdin = String::from(
+        "# Records in hexadecimal, one to a line, good and damaged; made by harness/oracle/examples/read_vectors.rs\n",
+    );
+    let mut stdout = String::new();
+    for input in &inputs {
+        for byte in input {
+            write!(stdin, "{byte:02x}").expect("a string takes it");
+        }
+        stdin.push('\n');
+        match read(input) {
+            Ok(used) => writeln!(stdout, "0 {used}"),
+            Err(number) => writeln!(stdout, "{number}"),
+        }
+        .expect("a string takes it");
+    }
+    fs::write(format!("{folder}/stdin"), stdin).expect("the folder is writable");
+    fs::write(format!("{folder}/stdout"), stdout).expect("the folder is writable");
+}
+
+/// Generated records, each with a damaged copy, and inputs at the limits.
+fn inputs() -> Vec<Vec<u8>> {
+    let mut state = SEED;
+    let mut random = move || {
+        state = state
+            .wrapping_mul(6364136223846793005)
+            .wrapping_add(1442695040888963407);
+        state >> 11
+    };
+    let knobs = Knobs {
+        extreme: 2,
+        ..Knobs::default()
+    };
+    let mut inputs = edges();
+    for record in Generator::new(SEED, knobs).history(GOOD) {
+        let good = encode(&record).expect("a kind that 01 has");
+        inputs.push(damaged(&mut random, &good));
+        inputs.push(good);
+    }
+    inputs
+}
+
+/// Empty and cut headers, unknown kinds, lengths that lie, the longest body, map order, and limits.
+fn edges() -> Vec<Vec<u8>> {
+    let level: &[u8] = &[11, 0, 9, 1, 0, 1, b'a', 2, 0, 2, 0, 1];
+    let mut edges: Vec<Vec<u8>> = (0..=level.len()).map(|n| level[..n].to_vec()).collect();
+    for at in 0..level.len() {
+        for change in [0x01, 0x80, 0xff] {
+            let mut changed = level.to_vec();
+            changed[at] ^= change;
+            edges.push(changed);
+        }
+    }
+    for kind in [0, 26, 255] {
+        edges.push(vec![kind, 0, 0]);
+    }
+    for length in [254, 255, 256] {
+        edges.push(named(&"x".repeat(length)));
+        edges.push(named(&format!("{}\u{10ffff}", "x".repeat(length - 4))));
+    }
+    edges.push(named("\0"));
+    edges.push(run(4, &[(1, vec![0xed, 0xa0, 0x80])]));
+    edges.push(run(4, &[(1, vec![0xc0, 0x80])]));
+    edges.push(run(4, &[(1, vec![0xf4, 0x90, 0x80, 0x80])]));
+    for count in [64, 65] {
+        edges.push(pairs((0..count).map(|n| format!("{n:03}"))));
+        edges.push(run(
+            21,
+            &[
+                (1, b"t".to_vec()),
+                (2, vec![0; 4]),
+                (3, vec![0; count * 8]),
+                (4, vec![]),
+            ],
+        ));
+    }
+    edges.push(pairs(["b", "a"].map(String::from).into_iter()));
+    edges.push(pairs(["a", "a"].map(String::from).into_iter()));
+    edges.push(pairs(["a".to_string(), "x".repeat(256)].into_iter()));
+    edges.push(run(
+        7,
+        &(0..9).map(|_| (1, field(1, b"user"))).collect::<Vec<_>>(),
+    ));
+    let mut longest = vec![2, 0xff, 0xff];
+    longest.resize(3 + 65_535, 0);
+    edges.push(longest);
+    edges
+}
+
+fn field(tag: u8, value: &[u8]) -> Vec<u8> {
+    let length = u16::try_from(value.len()).expect("a short value");
+    [&[tag], &length.to_be_bytes()[..], value].concat()
+}
+
+fn run(kind: u8, fields: &[(u8, Vec<u8>)]) -> Vec<u8> {
+    let body: Vec<u8> = fields
+        .iter()
+        .flat_map(|(tag, value)| field(*tag, value))
+        .collect();
+    field(kind, &body)
+}
+
+fn named(name: &str) -> Vec<u8> {
+    run(4, &[(1, name.as_bytes().to_vec())])
+}
+
+/// A topic config of these keys.
+fn pairs(keys: impl Iterator<Item = String>) -> Vec<u8> {
+    let mut fields = vec![(1, b"t".to_vec())];
+    fields.extend(keys.map(|key| (2, [field(1, key.as_bytes()), field(2, b"v")].concat())));
+    run(5, &fields)
+}
