@@ -1,0 +1,24 @@
+-- Laws of Apply: what a record does to contents that fit leaves contents that fit.
+--
+--   records that read back ................................ Readable.logged-readable, Readable.set-readable
+--   entries such as Apply stores, changed one by one ...... Entries.Stored and its neighbours; found by key: Found.found
+--   counts and ids after a change ......................... Topics.put-topics, topic-topics, part-topics, keep-topics
+--   empty groups after a change ........................... Groups.put-empties, join-empties, leave-empties
+--   what a move must carry ................................ Lawful.Lawful
+--   a lawful move keeps what Apply keeps .................. Moves.Holds, Moves.move-holds, Moves.moves-hold
+--   records that plans make read back ..................... Changes; quotas with their entities sorted: Quotas
+--   every move of a plan is lawful ........................ Plans.plan-lawful
+--   contents that fit fit afterwards ...................... MovedFits.moved-fits, MovedFits.outcome, MovedFits.applied-fits
+--   Apply keeps images, and what it answers ............... Apply.apply-image, Apply.apply-contents
+pub mod Readable
+pub mod Entries
+pub mod Topics
+pub mod Groups
+pub mod Lawful
+pub mod Moves
+pub mod Changes
+pub mod Quotas
+pub mod Found
+pub mod Plans
+pub mod MovedFits
+pub mod Apply
