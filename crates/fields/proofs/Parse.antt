@@ -22,7 +22,7 @@ parse-short (t ∷ h ∷ []) p q = refl
 parse-short (t ∷ h ∷ l ∷ rest) p q = absurd (omega arith)
 
 -- a part of a part
-take-drop : (a n : ℕ) (l : Bytes) → take n (drop a l) ≡ drop a (take (a + n) l)
+pub take-drop : (a n : ℕ) (l : Bytes) → take n (drop a l) ≡ drop a (take (a + n) l)
 take-drop zero n l = rw zero-add
 take-drop (suc a) n [] = rw (take-nil, take-nil)
 take-drop (suc a) n (x ∷ l) = rw suc-add (take-drop a n l)

@@ -14,7 +14,7 @@ use Rattle.laws.specs.Lists.{getElem?-past}
 use Rattle.laws_records.specs.Kinds.{number-kind}
 use Rattle.shapes.specs.Table.{rowCount, baseOf, kindBase}
 
-kind-past : (k : ℕ) → 26 ≤ k → kindOf k ≡ none
+pub kind-past : (k : ℕ) → 26 ≤ k → kindOf k ≡ none
 unfolding kindOf kinds
 kind-past zero h = refl
 kind-past (suc n) h = getElem?-past kinds n (omega arith)

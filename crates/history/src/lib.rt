@@ -1,0 +1,1 @@
+// Demand 3: a restart changes no later answer. See `specs/`.

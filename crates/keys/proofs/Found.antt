@@ -1,0 +1,45 @@
+-- What a caller of `field` learns, by the variant.
+use mathlib.Core.Path.{_≡_, refl, sym, ap, _∙_}
+use mathlib.Core.List.{[]}
+use mathlib.Core.Option.{Option, none, some}
+use Prim.Native.Nat.{ℕ, _+_, _-_, _≤_}
+use native.Mathlib.Omega.{arith}
+use lib.ListN.{length, take, drop}
+use lib.Seq.{slice, take-length, length-slice}
+use Rattle.model.specs.Number.{Bytes}
+use Rattle.model.specs.Run.{Run, field, value, orEmpty}
+use Rattle.fields.proofs.Parse.{take-drop}
+use Rattle.fields.specs.Fields.{held, Within}
+use Rattle.fields.specs.declared.Found.{Found}
+use Rattle.fields.specs.declared.Found.the-variants.{Part, Missing}
+
+-- a part that is lent, as a slice
+pub lent-slice : (s : Bytes) (a e : ℕ) → a ≤ e → take (e - a) (drop a s) ≡ slice a e s
+lent-slice s a e h = let q : a + (e - a) ≡ e = omega arith in take-drop a (e - a) s ∙ rw q
+
+-- the rest of a slice
+pub slice-rest : (n : ℕ) (s : Bytes) → slice n (length s) s ≡ drop n s
+slice-rest n s = rw take-length
+
+module _ (s : Bytes) (tag : ℕ) (run : Run) {r : Found} (e : held s r ≡ field tag run) where
+  pub field-part : {start len : ℕ} → r ≡ Part start len → field tag run ≡ some (slice start (start + len) s)
+  unfolding held
+  field-part {start} {len} h = sym e ∙ rw h
+
+  pub field-missing : r ≡ Missing → field tag run ≡ none
+  unfolding held
+  field-missing h = sym e ∙ rw h
+
+  pub value-part : {start len : ℕ} → r ≡ Part start len → slice start (start + len) s ≡ value tag run
+  value-part {start} {len} h = sym (ap orEmpty (field-part h))
+
+  pub value-missing : r ≡ Missing → _≡_ {A = Bytes} [] (value tag run)
+  value-missing h = sym (ap orEmpty (field-missing h))
+
+pub within-part : {to : ℕ} {r : Found} {start len : ℕ} → r ≡ Part start len → Within to r → start + len ≤ to
+unfolding Within
+within-part {to} {r} {start} {len} h w = let q : Within to (Part start len) = rw h at w in q
+
+-- a part's length is its value's
+pub part-length : (s : Bytes) (a e : ℕ) (v : Bytes) → a ≤ e → e ≤ length s → slice a e s ≡ v → e ≡ a + length v
+part-length s a e v h k q = let w : e - a ≡ length v = sym (length-slice a e s k) ∙ ap length q in omega arith

@@ -1,0 +1,4 @@
+pub mod Found
+pub mod Orders
+pub mod Elements
+pub mod Keys

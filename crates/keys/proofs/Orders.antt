@@ -1,0 +1,63 @@
+-- Orders in steps: the first difference decides, and a part of one number compares as the number.
+use mathlib.Core.Path.{_≡_, refl, sym, ap, _∙_}
+use mathlib.Core.List.{List, [], _∷_}
+use Prim.Native.Nat.{ℕ, _+_, _%_, _≤_, _<_, compare, Ordering, Ordering·lt, Ordering·eq, Ordering·gt}
+use lib.ListN.{length}
+use lib.Seq.{slice}
+use Rattle.model.specs.Number.{Bytes, AreBytes, number, place}
+use Rattle.model.specs.Order.{thenBy, lexicographic, compareBytes, compareKeys, ordering}
+use Rattle.model.specs.declared.Order.{Order}
+use Rattle.model.specs.declared.Order.the-variants.{Less, Equal, Greater}
+use Rattle.shapes.proofs.Bases.{kind-past}
+use Rattle.keys.specs.Keys.{rankOf}
+use Rattle.keys.specs.Forms.{formOf}
+use Rattle.laws.specs.Order.{lt-compare, eq-compare, gt-compare}
+use Rattle.laws.specs.Numbers.{compare-number}
+
+module _ {o : Order} {x : Ordering} (y : Ordering) where
+  pub first-less : o ≡ Less → ordering o ≡ x → Ordering·lt ≡ thenBy x y
+  first-less h e = let q : Ordering·lt ≡ x = rw h at e in rw (← q)
+
+  pub first-equal : o ≡ Equal → ordering o ≡ x → y ≡ thenBy x y
+  first-equal h e = let q : Ordering·eq ≡ x = rw h at e in rw (← q)
+
+  pub first-greater : o ≡ Greater → ordering o ≡ x → Ordering·gt ≡ thenBy x y
+  first-greater h e = let q : Ordering·gt ≡ x = rw h at e in rw (← q)
+
+-- parts of one number
+pub then-same : (o : Ordering) → thenBy o Ordering·eq ≡ o
+then-same Ordering·lt = refl
+then-same Ordering·eq = refl
+then-same Ordering·gt = refl
+
+pub single : (x y : ℕ) → compareBytes (x ∷ []) (y ∷ []) ≡ compare x y
+unfolding compareBytes
+single x y = then-same (compare x y)
+
+module _ (x y a b : ℕ) (p : x ≡ a) (q : y ≡ b) where
+  pub single-less : x < y → Ordering·lt ≡ compareBytes (a ∷ []) (b ∷ [])
+  single-less h = rw (← p, ← q) (sym (single x y ∙ lt-compare x y h))
+
+  pub single-greater : y < x → Ordering·gt ≡ compareBytes (a ∷ []) (b ∷ [])
+  single-greater h = rw (← p, ← q) (sym (single x y ∙ gt-compare x y h))
+
+  pub single-equal : x ≡ y → Ordering·eq ≡ compareBytes (a ∷ []) (b ∷ [])
+  single-equal h = rw (← p, ← q) (sym (single x y ∙ eq-compare x y h))
+
+-- numbers of one width compare as their bytes
+pub number-part : (a b : Bytes) → length a ≡ length b → AreBytes a → AreBytes b → compareBytes (number a ∷ []) (number b ∷ []) ≡ compareBytes a b
+number-part a b e p q = single (number a) (number b) ∙ sym (compare-number a b e p q)
+
+-- the place of a partition's number, by its four bytes
+pub place-of : (s : Bytes) (a e : ℕ) (v : Bytes) (r : ℕ) → e ≡ a + 4 → slice a e s ≡ v → r ≡ number (slice a (a + 4) s)
+    → (r + 0x80000000) % 0x100000000 ≡ place 4 (number v)
+place-of s a e v r h q p = let w : r ≡ number v = p ∙ ap number (ap (λ t. slice a t s) (sym h) ∙ q) in rw w
+
+-- a number past the last kind has no rank and no form
+pub rank-past : (n : ℕ) → 26 ≤ n → 0 ≡ rankOf n
+unfolding rankOf
+rank-past n h = rw (kind-past n h)
+
+pub form-past : (n : ℕ) → 26 ≤ n → 0 ≡ formOf n
+unfolding formOf
+form-past n h = rw (kind-past n h)

@@ -1,0 +1,3 @@
+pub mod Keys
+pub mod Entities
+pub mod Forms

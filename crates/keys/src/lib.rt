@@ -1,0 +1,216 @@
+// Keys: how two encoded records stand to each other in an image, straight from their bytes.
+mod entities;
+
+use entities::compare_entities;
+use fields::Cursor;
+use fields::Found;
+use fields::field;
+use model::Order;
+ghost use mathlib.Core.Path.{_≡_};
+ghost use Prim.Native.Nat.{_≤_};
+ghost use lib.ListN.{length};
+ghost use lib.Seq.{slice};
+ghost use Rattle.model.specs.Number.{number, place};
+ghost use Rattle.model.specs.Order.{compareBytes, compareKeys, thenBy, ordering};
+ghost use Rattle.model.specs.Run.{value};
+ghost use Rattle.model.specs.Key.{partitionPart};
+ghost use Rattle.keys.specs.Keys.{runIn, rankOf, keyIn, Keyed};
+ghost use Rattle.keys.specs.Forms.{formOf, byForm, FormFits};
+ghost use Rattle.keys.specs.Entities.{Quotas};
+
+// A part of a slice.
+pub struct Part {
+    pub start: usize,
+    pub end: usize,
+}
+
+// A group's place in a snapshot, 0 for the kinds that are in none.
+pub fn rank_of(kind: u8) -> u8
+    ensures { λ r. ⌜ r ≡ rankOf kind ⌝ }
+{
+    match kind {
+        1 => 4,
+        2 => 5,
+        3 => 1,
+        4 => 0,
+        5 => 9,
+        6 => 3,
+        7 => 10,
+        8 => 11,
+        9 => 0,
+        10 => 18,
+        11 => 16,
+        12 => 12,
+        13 => 17,
+        14 => 0,
+        15 => 6,
+        16 => 13,
+        17 => 2,
+        18 => 14,
+        19 => 15,
+        20 => 0,
+        21 => 7,
+        22 => 8,
+        23 => 0,
+        24 => 0,
+        25 => 0,
+        0 | 26..=255 => 0,
+    }
+}
+
+// Where a field's value stands in a record, or nothing where there is none.
+pub fn value_at(s: &[u8], tag: usize) -> Part
+    requires { ⌜ 3 ≤ length (now s) ⌝ }
+    ensures { λ r. ⌜ (slice (r .start) (r .end) (now (s .entry)) ≡ value tag (runIn (now (s .entry)))) × (r .start ≤ r .end) × (r .end ≤ length (now (s .entry))) ⌝ }
+{
+    let body = Cursor { at: 3, to: s.len() };
+    match field(s, body, tag) {
+        Found::Part { start, len } => Part {
+            start,
+            end: start + len,
+        },
+        Found::Missing => Part { start: 0, end: 0 },
+    }
+}
+
+// The order of two records' fields of a tag, by bytes.
+fn compare_field(a: &[u8], b: &[u8], tag: usize) -> Order
+    requires { ⌜ (3 ≤ length (now a)) × (3 ≤ length (now b)) ⌝ }
+    ensures { λ r. ⌜ ordering r ≡ compareBytes (value tag (runIn (now (a .entry)))) (value tag (runIn (now (b .entry)))) ⌝ }
+{
+    let p = value_at(a, tag);
+    let q = value_at(b, tag);
+    let ps = p.start;
+    let pe = p.end;
+    let qs = q.start;
+    let qe = q.end;
+    wire::compare(&a[ps..pe], &b[qs..qe])
+}
+
+// A partition's number as its place among all.
+fn partition_place(s: &[u8]) -> u64
+    requires { ⌜ (3 ≤ length (now s)) × (length (value 2 (runIn (now s))) ≡ 4) ⌝ }
+    ensures { λ r. ⌜ r ≡ place 4 (number (value 2 (runIn (now (s .entry))))) ⌝ }
+{
+    let p = value_at(s, 2);
+    let start = p.start;
+    (wire::get(s, start, 4) + 0x8000_0000) % 0x1_0000_0000
+}
+
+// The order of two records' partition numbers, by value.
+fn compare_partitions(a: &[u8], b: &[u8]) -> Order
+    requires { ⌜ (3 ≤ length (now a)) × (3 ≤ length (now b)) × (length (value 2 (runIn (now a))) ≡ 4) × (length (value 2 (runIn (now b))) ≡ 4) ⌝ }
+    ensures { λ r. ⌜ ordering r ≡ compareBytes (partitionPart (value 2 (runIn (now (a .entry))))) (partitionPart (value 2 (runIn (now (b .entry))))) ⌝ }
+{
+    let x = partition_place(a);
+    let y = partition_place(b);
+    if x < y {
+        return Order::Less;
+    }
+    if y < x {
+        return Order::Greater;
+    }
+    Order::Equal
+}
+
+// The order of two records' fields of one tag, and of another where those are the same.
+fn compare_both(a: &[u8], b: &[u8], tag: usize, other: usize) -> Order
+    requires { ⌜ (3 ≤ length (now a)) × (3 ≤ length (now b)) ⌝ }
+    ensures { λ r. ⌜ ordering r ≡ thenBy (compareBytes (value tag (runIn (now (a .entry)))) (value tag (runIn (now (b .entry))))) (compareBytes (value other (runIn (now (a .entry)))) (value other (runIn (now (b .entry))))) ⌝ }
+{
+    match compare_field(a, b, tag) {
+        Order::Less => Order::Less,
+        Order::Equal => compare_field(a, b, other),
+        Order::Greater => Order::Greater,
+    }
+}
+
+// What tells the entries of a kind's group apart: 0 nothing, 1 the field of tag 1, 2 tags 1 and 2, 3 tags 2 and 1, 4 tag 1 and the partition's
+// number, 5 the entities and tag 2.
+fn form_of(kind: u8) -> u8
+    ensures { λ r. ⌜ r ≡ formOf kind ⌝ }
+{
+    match kind {
+        1 => 1,
+        2 => 4,
+        3 => 1,
+        4 => 0,
+        5 => 1,
+        6 => 2,
+        7 => 5,
+        8 => 0,
+        9 => 0,
+        10 => 0,
+        11 => 1,
+        12 => 1,
+        13 => 0,
+        14 => 0,
+        15 => 4,
+        16 => 1,
+        17 => 1,
+        18 => 3,
+        19 => 1,
+        20 => 0,
+        21 => 4,
+        22 => 4,
+        23 => 0,
+        24 => 0,
+        25 => 0,
+        0 | 26..=255 => 0,
+    }
+}
+
+// The order of two records' topics and partition numbers.
+fn compare_placed(a: &[u8], b: &[u8]) -> Order
+    requires { ⌜ (3 ≤ length (now a)) × (3 ≤ length (now b)) × (length (value 2 (runIn (now a))) ≡ 4) × (length (value 2 (runIn (now b))) ≡ 4) ⌝ }
+    ensures { λ r. ⌜ ordering r ≡ byForm 4 (runIn (now (a .entry))) (runIn (now (b .entry))) ⌝ }
+{
+    match compare_field(a, b, 1) {
+        Order::Less => Order::Less,
+        Order::Equal => compare_partitions(a, b),
+        Order::Greater => Order::Greater,
+    }
+}
+
+// The order of two quotas: entities, then the config key.
+fn compare_quotas(a: &[u8], b: &[u8]) -> Order
+    requires { ⌜ Quotas (now a) (now b) ⌝ }
+    ensures { λ r. ⌜ ordering r ≡ byForm 5 (runIn (now (a .entry))) (runIn (now (b .entry))) ⌝ }
+{
+    match compare_entities(a, b) {
+        Order::Less => Order::Less,
+        Order::Equal => compare_field(a, b, 2),
+        Order::Greater => Order::Greater,
+    }
+}
+
+// The order of two records of one group, by what tells its entries apart.
+fn compare_by(form: u8, a: &[u8], b: &[u8]) -> Order
+    requires { ⌜ (3 ≤ length (now a)) × (3 ≤ length (now b)) × FormFits form (runIn (now a)) × FormFits form (runIn (now b)) ⌝ }
+    ensures { λ r. ⌜ ordering r ≡ byForm form (runIn (now (a .entry))) (runIn (now (b .entry))) ⌝ }
+{
+    match form {
+        1 => compare_field(a, b, 1),
+        2 => compare_both(a, b, 1, 2),
+        3 => compare_both(a, b, 2, 1),
+        4 => compare_placed(a, b),
+        5 => compare_quotas(a, b),
+        _ => Order::Equal,
+    }
+}
+
+// The order of two records' keys.
+pub fn compare_keys(a: &[u8], b: &[u8]) -> Order
+    requires { ⌜ Keyed (now a) × Keyed (now b) ⌝ }
+    ensures { λ r. ⌜ ordering r ≡ compareKeys (keyIn (now (a .entry))) (keyIn (now (b .entry))) ⌝ }
+{
+    let x = rank_of(a[0]);
+    let y = rank_of(b[0]);
+    if x < y {
+        return Order::Less;
+    }
+    if y < x {
+        return Order::Greater;
+    }
+    compare_by(form_of(a[0]), a, b)
+}
