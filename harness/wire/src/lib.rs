@@ -7,9 +7,11 @@ mod encode;
 mod read;
 mod run;
 pub mod table;
+mod write;
 
 pub use damage::damaged;
 pub use decode::decode;
 pub use encode::encode;
 pub use read::{HEADER, OVER_A_LIMIT, PAST_THE_END, UNKNOWN_KIND, WRONG_FIELD, read};
 pub use run::Run;
+pub use write::{TOO_SHORT, write};

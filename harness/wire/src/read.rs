@@ -30,7 +30,7 @@ pub fn read(input: &[u8]) -> Result<usize, u8> {
 /// Checks the fields of a run in byte order. `key_before` is the key of the
 /// map's element before this run, and the answer is the run's own key; they are
 /// `None` where there is no such key.
-fn check_run<'a>(
+pub(crate) fn check_run<'a>(
     rows: &[Row],
     bytes: &'a [u8],
     key_before: Option<&[u8]>,

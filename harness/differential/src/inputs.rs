@@ -1,0 +1,121 @@
+//! Inputs drawn from a seed: records, good and damaged.
+
+use oracle::generate::{Generator, Knobs};
+use wire::{Run, damaged, encode};
+
+/// The records of one generated history.
+const HISTORY: usize = 200;
+/// The damaged copies of each record, each of them damaged again by the next.
+const DAMAGED: usize = 7;
+
+/// Random numbers from a seed.
+struct Random {
+    state: u64,
+}
+
+impl Random {
+    fn next(&mut self) -> u64 {
+        self.state = self
+            .state
+            .wrapping_mul(6364136223846793005)
+            .wrapping_add(1442695040888963407);
+        self.state >> 11
+    }
+
+    fn below(&mut self, bound: usize) -> usize {
+        (self.next() % bound as u64) as usize
+    }
+}
+
+/// Byte strings without end: each record of a generated history, then damaged
+/// copies of it.
+pub struct Inputs {
+    seed: u64,
+    random: Random,
+    waiting: Vec<Vec<u8>>,
+}
+
+impl Inputs {
+    pub fn new(seed: u64) -> Self {
+        let random = Random { state: seed };
+        Self {
+            seed,
+            random,
+            waiting: Vec::new(),
+        }
+    }
+
+    fn refill(&mut self) {
+        let knobs = Knobs {
+            extreme: 4,
+            ..Knobs::default()
+        };
+        for record in Generator::new(self.seed, knobs).history(HISTORY) {
+            let mut bytes = encode(&record).expect("a kind that 01 has");
+            for _ in 0..DAMAGED {
+                let next = damaged(&mut || self.random.next(), &bytes);
+                self.waiting.push(bytes);
+                bytes = next;
+            }
+            self.waiting.push(bytes);
+        }
+        self.seed += 1;
+    }
+
+    pub fn next(&mut self) -> Vec<u8> {
+        if self.waiting.is_empty() {
+            self.refill();
+        }
+        self.waiting.pop().expect("a history has records")
+    }
+
+    /// Write's input from a record's bytes: its fields as lists, in some cases
+    /// with a length or a value byte too many or too few, and an output that is
+    /// about as long as the record.
+    pub fn lists(&mut self, record: &[u8]) -> Lists {
+        let mut lists = Lists::of(record);
+        match self.random.below(12) {
+            0 => drop(lists.lengths.pop()),
+            1 => lists.lengths.push(0),
+            2 => drop(lists.values.pop()),
+            3 => lists.values.push(0),
+            4 => drop(lists.tags.pop()),
+            _ => {}
+        }
+        let written = 3 + 3 * lists.tags.len() + lists.values.len();
+        let room = (written + self.random.below(6)).saturating_sub(2);
+        lists.out = (0..room).map(|_| self.random.next() as u8).collect();
+        lists
+    }
+}
+
+/// What Write is given.
+pub struct Lists {
+    pub kind: u8,
+    pub tags: Vec<u8>,
+    pub lengths: Vec<u16>,
+    pub values: Vec<u8>,
+    pub out: Vec<u8>,
+}
+
+impl Lists {
+    fn of(record: &[u8]) -> Self {
+        let (kind, body) = Run::new(record)
+            .next()
+            .and_then(Result::ok)
+            .unwrap_or((0, &[]));
+        let mut lists = Self {
+            kind,
+            tags: Vec::new(),
+            lengths: Vec::new(),
+            values: Vec::new(),
+            out: Vec::new(),
+        };
+        for (tag, value) in Run::new(body).map_while(Result::ok) {
+            lists.tags.push(tag);
+            lists.lengths.push(value.len() as u16);
+            lists.values.extend(value);
+        }
+        lists
+    }
+}

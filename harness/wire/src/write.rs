@@ -1,0 +1,52 @@
+//! Write: a record's bytes from its fields.
+
+use crate::read::{UNKNOWN_KIND, check_run};
+use crate::table::shape;
+
+/// The output is too short.
+pub const TOO_SHORT: u8 = 19;
+
+/// Writes the record of a kind with the fields of three lists: the tags, the
+/// lengths, and the values back to back. The bytes written, or the refusal's
+/// number; a refusal leaves the output as it is.
+pub fn write(
+    kind: u8,
+    tags: &[u8],
+    lengths: &[u16],
+    values: &[u8],
+    out: &mut [u8],
+) -> Result<usize, u8> {
+    let shape = shape(kind).ok_or(UNKNOWN_KIND)?;
+    let body = gathered(tags, lengths, values);
+    check_run(shape.rows, &body, None)?;
+    let length = u16::try_from(body.len()).expect("the limits keep a body below 65,536");
+    let record = [&[kind][..], &length.to_be_bytes(), &body].concat();
+    let place = out.get_mut(..record.len()).ok_or(TOO_SHORT)?;
+    place.copy_from_slice(&record);
+    Ok(record.len())
+}
+
+/// The fields' bytes. Where a length is missing, runs past the values or is
+/// left over, or values are left over, a torn field ends them.
+fn gathered(tags: &[u8], lengths: &[u16], values: &[u8]) -> Vec<u8> {
+    let torn = [0];
+    let mut body = Vec::new();
+    let mut rest = values;
+    for (place, &tag) in tags.iter().enumerate() {
+        let field = lengths
+            .get(place)
+            .and_then(|&length| rest.split_at_checked(usize::from(length)));
+        let Some((value, after)) = field else {
+            body.extend(torn);
+            return body;
+        };
+        body.push(tag);
+        body.extend(lengths[place].to_be_bytes());
+        body.extend(value);
+        rest = after;
+    }
+    if lengths.len() > tags.len() || !rest.is_empty() {
+        body.extend(torn);
+    }
+    body
+}
