@@ -1,0 +1,4 @@
+pub mod Held
+pub mod Only
+pub mod Parts
+pub mod PassedOn

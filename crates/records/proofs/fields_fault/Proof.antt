@@ -1,0 +1,22 @@
+-- `records::fields_fault` meets its contract: the base of the kind's number has the kind's rows.
+use mathlib.Core.Path.{_∙_}
+use borrow.Author.Needs.{needs}
+use Rattle.records.proofs.Bases.{kind-fault, record-base}
+use Rattle.records.proofs.fields_fault.Statement.{statement}
+use Rattle.records.proofs.fields_fault.Tie as tie
+
+number-of-requires : tie.Need-number-of-requires
+number-of-requires c κs = search needs
+
+base-of-requires : tie.Need-base-of-requires
+base-of-requires c κs = search needs
+
+given-faults-requires : tie.Need-given-faults-requires
+given-faults-requires c κs = record { shape = _; at = record-base _ (c .before .number-of .ensures) (c .base-of .ensures) }
+
+returns : tie.Need-returns
+returns c = c .given-faults .ensures ∙ kind-fault _ _ (record-base _ (c .before .before .number-of .ensures) (c .before .base-of .ensures)) _
+
+pub fields-fault-spec : {M : Type 1} → statement M
+fields-fault-spec =
+    tie.close (tie.spec number-of-requires base-of-requires given-faults-requires returns)

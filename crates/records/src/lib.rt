@@ -1,0 +1,180 @@
+// Records: Read and Write.
+use fields::Cursor;
+use model::Kind;
+use shape_faults::PAST_THE_END;
+use shape_faults::TOO_SHORT;
+use shape_faults::UNKNOWN_KIND;
+use shape_faults::faults;
+use shape_faults::given_faults;
+use shape_faults::no_key;
+pub use shape_faults::text_fault;
+use shapes::base_of;
+use shapes::stored_base_of;
+use wire::get16;
+ghost use mathlib.Core.Path.{_≡_};
+ghost use mathlib.Core.List.{_++_};
+ghost use Prim.Native.Nat.{_+_, _<_, _≤_};
+ghost use lib.ListN.{length};
+ghost use Rattle.model.specs.Kind.{kindNumber};
+ghost use Rattle.model.specs.Run.{bytesOf};
+ghost use Rattle.model.specs.Shape.{logged, fault};
+ghost use Rattle.model.specs.Record.{read as readFrom, readOf, gathered, writeOf};
+ghost use Rattle.laws_records.specs.Runs.{Whole};
+ghost use Rattle.shapes.specs.Table.{kindBase};
+ghost use Rattle.records.specs.Answers.{replied, gotReply, sourceOf, bodyLength, written, head};
+
+// Bytes used or written, or a refusal's number.
+pub enum Answer {
+    Used(usize),
+    Refused(u8),
+}
+
+// Where a record's rows begin in the table: as it stands in the log, or in an image.
+fn base_from(kind: u8, in_image: bool) -> usize
+    ensures { λ r. ⌜ r ≡ kindBase (sourceOf «in_image») kind ⌝ }
+{
+    if in_image {
+        return stored_base_of(kind);
+    }
+    base_of(kind)
+}
+
+// Reads the record at the start of `s`, as it stands in the log or in an image. Later bytes are not looked at.
+pub fn read_from(s: &[u8], in_image: bool) -> Answer
+    ensures { λ r. ⌜ replied r ≡ gotReply (readFrom (sourceOf «in_image») (now (s .entry))) ⌝ }
+{
+    if s.len() < 3 {
+        return Answer::Refused(PAST_THE_END);
+    }
+    let len = get16(s, 1);
+    if s.len() - 3 < len {
+        return Answer::Refused(PAST_THE_END);
+    }
+    let base = base_from(s[0], in_image);
+    if base == shapes::ROW_COUNT {
+        return Answer::Refused(UNKNOWN_KIND);
+    }
+    let end = 3 + len;
+    let f = faults(s, base, Cursor { at: 3, to: end }, false, no_key());
+    if f != 0 {
+        return Answer::Refused(f);
+    }
+    Answer::Used(end)
+}
+
+// Reads the record at the start of `s`: the bytes used. Later bytes are not looked at.
+pub fn read(s: &[u8]) -> Answer
+    ensures { λ r. ⌜ replied r ≡ readOf (now (s .entry)) ⌝ }
+{
+    read_from(s, false)
+}
+
+// A kind's number.
+pub fn number_of(kind: Kind) -> u8
+    ensures { λ r. ⌜ r ≡ kindNumber kind ⌝ }
+{
+    match kind {
+        Kind::Topic => 1,
+        Kind::Partition => 2,
+        Kind::BrokerRegistration => 3,
+        Kind::DeleteTopic => 4,
+        Kind::TopicConfig => 5,
+        Kind::BrokerConfig => 6,
+        Kind::ClientQuota => 7,
+        Kind::ProducerIds => 8,
+        Kind::UnregisterBroker => 9,
+        Kind::KRaftVersion => 10,
+        Kind::FeatureLevel => 11,
+        Kind::ClientMetricsConfig => 12,
+        Kind::FeaturesEpoch => 13,
+        Kind::PartitionDirAssignment => 14,
+        Kind::PartitionOffsetAdvance => 15,
+        Kind::GroupConfig => 16,
+        Kind::ControllerRegistration => 17,
+        Kind::TopicFreeze => 18,
+        Kind::BreakGlassProposal => 19,
+        Kind::DeleteBreakGlassProposal => 20,
+        Kind::PartitionElr => 21,
+        Kind::PartitionRecovery => 22,
+        Kind::PartitionUpdate => 23,
+        Kind::BrokerRegistrationChange => 24,
+        Kind::UnregisterController => 25,
+    }
+}
+
+// What is wrong with the fields of three lists in a record of a kind.
+fn fields_fault(kind: Kind, tags: &[u8], lengths: &[u16], values: &[u8]) -> u8
+    ensures { λ r. ⌜ r ≡ fault logged kind (gathered (now (tags .entry)) (now (lengths .entry)) (now (values .entry))) ⌝ }
+{
+    given_faults(base_of(number_of(kind)), tags, lengths, values)
+}
+
+// How long the bytes of some fields are.
+fn body_length(lengths: &[u16]) -> usize
+    requires { ⌜ bodyLength (now lengths) < 65536 ⌝ }
+    ensures { λ r. ⌜ r ≡ bodyLength (now (lengths .entry)) ⌝ }
+{
+    let mut n = 0;
+    let mut i = 0;
+    while i < lengths.len() {
+        n += 3 + lengths[i] as usize;
+        i += 1;
+    }
+    n
+}
+
+// Writes what a record and a field begin with: a byte, and a length of two bytes.
+fn put_head(out: &mut [u8], at: usize, first: u8, len: usize)
+    requires { ⌜ at + 3 ≤ length (now out) ⌝ }
+    ensures { λ _. ⌜ now (out .exit) ≡ written (now (out .entry)) at (head first len) ⌝ }
+{
+    out[at] = first;
+    wire::put(out, at + 1, 2, len as u64);
+}
+
+// Writes a field: its tag, its length and its value.
+fn put_field(out: &mut [u8], at: usize, tag: u8, v: &[u8])
+    requires { ⌜ at + 3 + length (now v) ≤ length (now out) ⌝ }
+    ensures { λ _. ⌜ now (out .exit) ≡ written (now (out .entry)) at (head tag (length (now (v .entry))) ++ now (v .entry)) ⌝ }
+{
+    put_head(out, at, tag, v.len());
+    wire::copy(out, at + 3, v);
+}
+
+// Writes the fields of three lists at `at`, one after the other.
+fn put_fields(out: &mut [u8], at: usize, tags: &[u8], lengths: &[u16], values: &[u8])
+    requires { ⌜ Whole (gathered (now tags) (now lengths) (now values)) ⌝ }
+    requires { ⌜ at + length (bytesOf (gathered (now tags) (now lengths) (now values))) ≤ length (now out) ⌝ }
+    ensures { λ _. ⌜ now (out .exit) ≡ written (now (out .entry)) at (bytesOf (gathered (now (tags .entry)) (now (lengths .entry)) (now (values .entry)))) ⌝ }
+{
+    let mut to = at;
+    let mut start = 0;
+    let mut i = 0;
+    while i < tags.len() {
+        let len = lengths[i] as usize;
+        let end = start + len;
+        put_field(out, to, tags[i], &values[start..end]);
+        to = to + 3 + len;
+        start = end;
+        i += 1;
+    }
+}
+
+// Writes a record of a kind with the fields of three lists: tags, lengths, and the values back to back. The bytes written.
+pub fn write(kind: Kind, tags: &[u8], lengths: &[u16], values: &[u8], out: &mut [u8]) -> Answer
+    ensures { λ r. ⌜ replied r ≡ writeOf kind (now (tags .entry)) (now (lengths .entry)) (now (values .entry)) (now (out .entry)) .reply ⌝ }
+    ensures { λ r. ⌜ now (out .exit) ≡ writeOf kind (now (tags .entry)) (now (lengths .entry)) (now (values .entry)) (now (out .entry)) .buffer ⌝ }
+{
+    let f = fields_fault(kind, tags, lengths, values);
+    if f != 0 {
+        return Answer::Refused(f);
+    }
+    let len = body_length(lengths);
+    let size = 3 + len;
+    if out.len() < size {
+        return Answer::Refused(TOO_SHORT);
+    }
+    put_head(out, 0, number_of(kind), len);
+    put_fields(out, 3, tags, lengths, values);
+    Answer::Used(size)
+}

@@ -1,0 +1,75 @@
+-- What is wrong with a value that is no run, test by test.
+use mathlib.Core.Path.{_≡_, refl}
+use mathlib.Core.Bool.{Bool, true, false, not}
+use mathlib.Core.List.{[], _∷_}
+use mathlib.Core.Option.{Option, none}
+use Prim.Native.Nat.{ℕ, _+_, _-_, _≤_, _<_}
+use native.Mathlib.Omega.{arith}
+use borrow.Author.Tests.{not-true, not-false, le-leb, lt-leb, lt-ltb, le-ltb, ne-eqb}
+use lib.ListN.{length, getD, take, drop}
+use lib.Seq.{slice}
+use Rattle.model.specs.Choice.{orThen, unless}
+use Rattle.model.specs.Number.{Bytes}
+use Rattle.model.specs.Text.{isText}
+use Rattle.model.specs.Order.{compareBytes, isBelow, ordering}
+use Rattle.model.specs.Shape.{below, mapKey, textFault, ascends, isBelowByte, leafFault}
+use Rattle.model.specs.declared.Order.{Order}
+use Rattle.shapes.specs.Table.{formOf}
+use Rattle.shape_faults.specs.Walk.{priorKey, PriorIn, limitFault}
+use Rattle.shape_faults.specs.declared.Prior.{Prior}
+use Rattle.shape_faults.proofs.Parts.{part-slice}
+
+-- 1. Strings
+
+module _ (limit : ℕ) (v : Bytes) (t : Bool) (et : t ≡ isText v) where
+  pub no-text : not t ≡ true → 4 ≡ textFault limit v
+  no-text h = rw (← et, not-true t h)
+
+  pub text-long : not t ≡ false → {f : ℕ} → f ≡ limitFault (length v) limit → f ≡ textFault limit v
+  text-long h e = rw (← et, not-false t h) e
+
+-- 2. Keys
+
+-- no key before, and one
+pub above-none : (s : Bytes) (p : Prior) (v : Bytes) → not (p .there) ≡ true → true ≡ ascends (priorKey s p) v
+above-none s p v h = rw (not-true (p .there) h)
+
+pub above-some : (s : Bytes) (p : Prior) (v : Bytes) {o w : Order} → PriorIn s p → not (p .there) ≡ false
+    → ordering o ≡ compareBytes (take (p .start + p .len - p .start) (drop (p .start) s)) v → o ≡ w → isBelow (ordering w) ≡ ascends (priorKey s p) v
+above-some s p v {o} {w} within h e q =
+    let k = part-slice s (p .start) (p .start + p .len) (omega arith) within in
+    rw (not-false (p .there) h, ← k, ← e, q)
+
+module _ (prior : Option Bytes) (limit : ℕ) (v : Bytes) (a : Bool) (ea : a ≡ ascends prior v) where
+  pub key-not-above : not a ≡ true → 4 ≡ leafFault prior (mapKey limit) v
+  unfolding leafFault
+  key-not-above h = rw (← ea, not-true a h) (go (isText v))
+    where
+      go : (t : Bool) → 4 ≡ orThen (unless t 4) 4
+      go true = refl
+      go false = refl
+
+  pub key-text : not a ≡ false → {f : ℕ} → f ≡ textFault limit v → f ≡ leafFault prior (mapKey limit) v
+  unfolding leafFault
+  key-text h e = rw (← ea, not-false a h) e
+
+-- 3. Bytes below a bound
+
+module _ (bound : ℕ) where
+  pub below-length : (v : Bytes) → (length v ≡ 1 → ⊥) → 4 ≡ leafFault none (below bound) v
+  unfolding leafFault isBelowByte
+  below-length [] h = refl
+  below-length (b ∷ []) h = absurd (h refl)
+  below-length (b ∷ c ∷ v) h = refl
+
+  pub below-right : (v : Bytes) (x : ℕ) → length v ≡ 1 → x ≡ getD v 0 0 → x < bound → 0 ≡ leafFault none (below bound) v
+  unfolding leafFault isBelowByte
+  below-right [] x h e k = absurd (omega arith)
+  below-right (b ∷ []) x h e k = rw (← e, lt-ltb _ _ k)
+  below-right (b ∷ c ∷ v) x h e k = absurd (omega arith)
+
+  pub below-wrong : (v : Bytes) (x : ℕ) → length v ≡ 1 → x ≡ getD v 0 0 → bound ≤ x → 4 ≡ leafFault none (below bound) v
+  unfolding leafFault isBelowByte
+  below-wrong [] x h e k = absurd (omega arith)
+  below-wrong (b ∷ []) x h e k = rw (← e, le-ltb _ _ k)
+  below-wrong (b ∷ c ∷ v) x h e k = absurd (omega arith)

@@ -1,0 +1,71 @@
+-- What is wrong with a value, by the form's code: up to 6 no run, from there on one.
+use mathlib.Core.Path.{_≡_, refl, sym, ap, _∙_}
+use mathlib.Core.Bool.{Bool, true, false, cond}
+use mathlib.Core.Option.{Option}
+use Prim.Native.Nat.{ℕ, zero, suc, _-_, _≤_, _<_}
+use native.Mathlib.Omega.{arith}
+use borrow.Author.Tests.{ne-eqb}
+use lib.ListN.{length, take, drop}
+use lib.Seq.{slice}
+use Rattle.model.specs.Number.{Bytes}
+use Rattle.model.specs.Run.{runOf}
+use Rattle.model.specs.Shape.{nested, start, leafFault, valueFault, runFault}
+use Rattle.shapes.specs.Table.{formIn, sizeIn, baseOf, shapeAt, formOf, rowsFrom}
+use Rattle.shapes.proofs.Rows.{rows-from}
+use Rattle.shape_faults.specs.Walk.{IsBase, IsRow, checkAt}
+use Rattle.shape_faults.proofs.Parts.{part-slice}
+
+leaf-value : (key : Option Bytes) (form size : ℕ) (v : Bytes) → form < 7 → valueFault key (formOf form size) v ≡ leafFault key (formOf form size) v
+unfolding valueFault formOf
+leaf-value key zero size v h = refl
+leaf-value key (suc zero) size v h = refl
+leaf-value key (suc (suc zero)) size v h = refl
+leaf-value key (suc (suc (suc zero))) size v h = refl
+leaf-value key (suc (suc (suc (suc zero)))) size v h = refl
+leaf-value key (suc (suc (suc (suc (suc zero))))) size v h = refl
+leaf-value key (suc (suc (suc (suc (suc (suc zero)))))) size v h = refl
+leaf-value key (suc (suc (suc (suc (suc (suc (suc form))))))) size v h = absurd (omega arith)
+
+run-form : (form size : ℕ) → 7 ≤ form → formOf form size ≡ nested (shapeAt size)
+unfolding formOf
+run-form form size h =
+    let past : (k : ℕ) → k < 7 → form ≡ k → ⊥ = λ k l e. omega arith in
+    rw (
+      ne-eqb form 0 (past 0 (omega arith)),
+      ne-eqb form 1 (past 1 (omega arith)),
+      ne-eqb form 2 (past 2 (omega arith)),
+      ne-eqb form 3 (past 3 (omega arith)),
+      ne-eqb form 4 (past 4 (omega arith)),
+      ne-eqb form 5 (past 5 (omega arith)),
+      ne-eqb form 6 (past 6 (omega arith)),
+    )
+
+-- the shape of a row's run
+module _ (row : ℕ) {form size : ℕ} (is : IsRow row) (ef : form ≡ formIn row) (es : size ≡ sizeIn row) (h : 7 ≤ form) where
+  pub run-size : size ≡ baseOf (shapeAt size)
+  run-size = rw es (is (rw (← ef) h))
+
+  pub run-is-base : IsBase size
+  run-is-base = record { shape = shapeAt size; at = run-size }
+
+module _ (s : Bytes) (row from to : ℕ) (low : from ≤ to) (within : to ≤ length s) (prior before : Option Bytes) {inner : Bool} {form size r : ℕ}
+    (ef : form ≡ formIn row) (es : size ≡ sizeIn row) where
+  pub value-inner : inner ≡ true → r ≡ leafFault prior (formOf form size) (take (to - from) (drop from s))
+      → r ≡ checkAt inner prior before (formOf (formIn row) (sizeIn row)) (slice from to s)
+  value-inner h e = rw (h, ← ef, ← es, ← part-slice s from to low within) e
+
+  pub value-leaf : inner ≡ false → form < 7 → r ≡ leafFault before (formOf form size) (take (to - from) (drop from s))
+      → r ≡ checkAt inner prior before (formOf (formIn row) (sizeIn row)) (slice from to s)
+  value-leaf h k e = rw (h, ← ef, ← es, ← part-slice s from to low within, leaf-value before form size (take (to - from) (drop from s)) k) e
+
+  pub value-run : IsRow row → inner ≡ false → 7 ≤ form → r ≡ runFault (checkAt true before) (rowsFrom size) start (runOf (slice from to s))
+      → r ≡ checkAt inner prior before (formOf (formIn row) (sizeIn row)) (slice from to s)
+  unfolding valueFault
+  value-run is h k e =
+      let q = run-size row is ef es k in
+      let rows = ap rowsFrom q ∙ rows-from (shapeAt size) in
+      rw (h, ← ef, ← es, run-form form size k, ← rows) e
+
+-- the recursion ends: within an element no value is a run
+pub inner-falls : {inner : Bool} {t : ℕ} → cond inner 0 3 ≡ t → inner ≡ false → 2 < t
+inner-falls e h = let q = rw h at e in omega arith
