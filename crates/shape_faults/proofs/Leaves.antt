@@ -5,16 +5,14 @@ use mathlib.Core.List.{[], _∷_}
 use mathlib.Core.Option.{Option, none}
 use Prim.Native.Nat.{ℕ, _+_, _-_, _≤_, _<_}
 use native.Mathlib.Omega.{arith}
-use borrow.Author.Tests.{not-true, not-false, le-leb, lt-leb, lt-ltb, le-ltb, ne-eqb}
+use borrow.Author.Tests.{not-true, not-false, lt-ltb, le-ltb}
 use lib.ListN.{length, getD, take, drop}
-use lib.Seq.{slice}
 use Rattle.model.specs.Choice.{orThen, unless}
 use Rattle.model.specs.Number.{Bytes}
 use Rattle.model.specs.Text.{isText}
 use Rattle.model.specs.Order.{compareBytes, isBelow, ordering}
 use Rattle.model.specs.Shape.{below, mapKey, textFault, ascends, isBelowByte, leafFault}
 use Rattle.model.specs.declared.Order.{Order}
-use Rattle.shapes.specs.Table.{formOf}
 use Rattle.shape_faults.specs.Walk.{priorKey, PriorIn, limitFault}
 use Rattle.shape_faults.specs.declared.Prior.{Prior}
 use Rattle.shape_faults.proofs.Parts.{part-slice}

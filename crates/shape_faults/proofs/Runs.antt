@@ -5,22 +5,23 @@ use mathlib.Core.Bool.{Bool, true, false, cond}
 use mathlib.Core.Option.{Option, none, some}
 use Prim.Native.Nat.{ℕ, zero, suc, _+_, _≤_, _<_}
 use native.Mathlib.Omega.{arith}
-use borrow.Author.Tests.{leb-true, leb-false, eq-eqb, ne-eqb, le-ltb, eqb-true, eqb-false}
+use borrow.Author.Tests.{leb-true, leb-false, eq-eqb, le-ltb, eqb-true}
 use lib.Dec.{leb, eqb}
 use Rattle.model.specs.Choice.{orThen, unless, given}
 use Rattle.model.specs.Number.{Bytes}
 use Rattle.model.specs.Run.{Run, done, torn, item}
 use Rattle.model.specs.Shape.{Row, Before, start, rowAt, repeats, mayFollow, keyBefore, countBefore, after, countFault, runFault}
 use Rattle.laws.specs.Choice.{impossible, orThen-left, given-some}
+use Rattle.laws_records.specs.Rows.{tag-positive}
 use Rattle.laws_records.specs.Passing.{Check}
 use Rattle.shapes.specs.Table.{rowCount, formIn, sizeIn, manyIn, formOf, presenceOf, unpacked, numberAt, fieldsAt, rowsFrom}
 use Rattle.shapes.proofs.Columns.{base-fits, row-at, row-past, run-base}
 use Rattle.shape_faults.specs.Walk.{IsBase, IsRow, begun, beforeIn, presenceAt, keyOf, passed, tagFault, endFault, fieldFault}
 use Rattle.shape_faults.specs.declared.Walk.{Walk}
 
-first : (f g : ℕ) → (f ≡ 0 → ⊥) → f ≡ orThen f g
-first zero g n = absurd (n refl)
-first (suc f) g n = refl
+orThen-first : (f g : ℕ) → (f ≡ 0 → ⊥) → f ≡ orThen f g
+orThen-first zero g n = absurd (n refl)
+orThen-first (suc f) g n = refl
 
 -- 1. A tag that has a row
 
@@ -29,14 +30,7 @@ module _ {base : ℕ} (is : IsBase base) (last tag : ℕ) {f : ℕ} (e : f ≡ t
   unfolding tagFault
   found = let g = given-some (rowAt (rowsFrom base) tag) 4 _ (omega arith) (sym e ∙ z) in (g .0, g .1)
 
-  pub tag-positive : 0 < tag
-  tag-positive = go tag (found .1)
-    where
-      go : (t : ℕ) → rowAt (rowsFrom base) t ≡ some (found .0) → 0 < t
-      go zero q = impossible cc
-      go (suc t) q = omega arith
-
-  pub tag-most : tag ≤ fieldsAt base
+  tag-most : tag ≤ fieldsAt base
   tag-most = go (leb tag (fieldsAt base)) refl
     where
       go : (b : Bool) → leb tag (fieldsAt base) ≡ b → tag ≤ fieldsAt base
@@ -47,7 +41,7 @@ module _ {base : ℕ} (is : IsBase base) (last tag : ℕ) {f : ℕ} (e : f ≡ t
           impossible cc
 
   pub row-there : rowAt (rowsFrom base) tag ≡ some (unpacked (numberAt (base + tag)))
-  row-there = row-at (is .shape) (is .at) tag tag-positive tag-most
+  row-there = row-at (is .shape) (is .at) tag (tag-positive (rowsFrom base) tag (found .0) (found .1)) tag-most
 
   pub row-fits : base + tag < rowCount
   row-fits = omega (arith, tag-most, base-fits (is .shape) (is .at))
@@ -60,7 +54,7 @@ module _ {base : ℕ} (is : IsBase base) (last tag : ℕ) {f : ℕ} (e : f ≡ t
 module _ (check : Check) (rows : List Row) (b : Before) (tag : ℕ) (v : Bytes) {f : ℕ} (ef : f ≡ tagFault rows (b .last) tag) where
   pub field-tag : (f ≡ 0 → ⊥) → f ≡ fieldFault check rows b tag v
   unfolding fieldFault
-  field-tag n = rw (← ef) (first f _ n)
+  field-tag n = rw (← ef) (orThen-first f _ n)
 
   module _ (z : f ≡ 0) {number row : ℕ} (there : rowAt rows tag ≡ some (unpacked number)) (er : row ≡ number) {key : Option Bytes}
       (ek : key ≡ keyBefore b tag) {g : ℕ} (eg : g ≡ check key (formOf (formIn row) (sizeIn row)) v) where
@@ -69,7 +63,7 @@ module _ (check : Check) (rows : List Row) (b : Before) (tag : ℕ) (v : Bytes) 
     opened-field = rw (← ef, z, there, ← er, ← ek, ← eg)
 
     pub field-value : (g ≡ 0 → ⊥) → g ≡ fieldFault check rows b tag v
-    field-value n = rw opened-field (first g _ n)
+    field-value n = rw opened-field (orThen-first g _ n)
 
     pub field-count : g ≡ 0 → {many count h : ℕ} → many ≡ manyIn row → count ≡ countBefore b tag → h ≡ countFault (presenceOf many) count
         → h ≡ fieldFault check rows b tag v
@@ -133,7 +127,7 @@ module _ (check : Check) (rows : List Row) (b : Before) {p : Run} where
         (λ row. countFault (row .presence) (countBefore b tag)) (runFault check rows (after b tag v) r))
 
     pub on-fault : (f ≡ 0 → ⊥) → f ≡ runFault check rows b p
-    on-fault n = rw opened (first f _ n)
+    on-fault n = rw opened (orThen-first f _ n)
 
 -- the rest after a field without fault
 module _ (check : Check) {base : ℕ} (is : IsBase base) (b : Before) (tag : ℕ) (v : Bytes) {f : ℕ} (ef : f ≡ fieldFault check (rowsFrom base) b tag v)

@@ -1,13 +1,13 @@
 -- What is wrong with a tag, with the end and with one element more, by the table's numbers.
 use mathlib.Core.Path.{_≡_, refl, sym, ap, _∙_}
-use mathlib.Core.Bool.{true, false, not}
+use mathlib.Core.Bool.{true, false}
 use Prim.Native.Nat.{ℕ, zero, suc, _+_, _-_, _≤_, _<_}
 use native.Mathlib.Omega.{arith}
 use borrow.Author.Tests.{lt-ltb, le-ltb, eq-eqb, ne-eqb}
 use lib.Dec.{ltb}
 use lib.Seq.{slice}
 use Rattle.model.specs.Choice.{unless}
-use Rattle.model.specs.Shape.{Presence, rowAt, repeats, anyRequired, mayFollow, countFault}
+use Rattle.model.specs.Shape.{repeats, anyRequired, mayFollow, countFault}
 use Rattle.shapes.specs.Table.{rowCount, sizeIn, priorIn, manyIn, presenceOf, numberAt, fieldsAt, rowsFrom}
 use Rattle.shapes.proofs.Columns.{base-fits, row-at, row-past, prior-after, prior-between}
 use Rattle.shape_faults.specs.Walk.{IsBase, presenceAt, tagFault, endFault}

@@ -1,5 +1,5 @@
 -- What is wrong with a value, by the form's code: up to 6 no run, from there on one.
-use mathlib.Core.Path.{_≡_, refl, sym, ap, _∙_}
+use mathlib.Core.Path.{_≡_, refl, ap, _∙_}
 use mathlib.Core.Bool.{Bool, true, false, cond}
 use mathlib.Core.Option.{Option}
 use Prim.Native.Nat.{ℕ, zero, suc, _-_, _≤_, _<_}
@@ -29,20 +29,19 @@ leaf-value key (suc (suc (suc (suc (suc (suc (suc form))))))) size v h = absurd 
 run-form : (form size : ℕ) → 7 ≤ form → formOf form size ≡ nested (shapeAt size)
 unfolding formOf
 run-form form size h =
-    let past : (k : ℕ) → k < 7 → form ≡ k → ⊥ = λ k l e. omega arith in
     rw (
-      ne-eqb form 0 (past 0 (omega arith)),
-      ne-eqb form 1 (past 1 (omega arith)),
-      ne-eqb form 2 (past 2 (omega arith)),
-      ne-eqb form 3 (past 3 (omega arith)),
-      ne-eqb form 4 (past 4 (omega arith)),
-      ne-eqb form 5 (past 5 (omega arith)),
-      ne-eqb form 6 (past 6 (omega arith)),
+      ne-eqb form 0 (omega arith),
+      ne-eqb form 1 (omega arith),
+      ne-eqb form 2 (omega arith),
+      ne-eqb form 3 (omega arith),
+      ne-eqb form 4 (omega arith),
+      ne-eqb form 5 (omega arith),
+      ne-eqb form 6 (omega arith),
     )
 
 -- the shape of a row's run
 module _ (row : ℕ) {form size : ℕ} (is : IsRow row) (ef : form ≡ formIn row) (es : size ≡ sizeIn row) (h : 7 ≤ form) where
-  pub run-size : size ≡ baseOf (shapeAt size)
+  run-size : size ≡ baseOf (shapeAt size)
   run-size = rw es (is (rw (← ef) h))
 
   pub run-is-base : IsBase size

@@ -1,11 +1,10 @@
 -- What came before a field: the key and the count for its tag, and the state after it.
-use mathlib.Core.Path.{_≡_, refl, sym, ap, _∙_}
+use mathlib.Core.Path.{_≡_, refl, ap}
 use mathlib.Core.Bool.{Bool, true, false, cond}
 use mathlib.Core.Option.{Option, none, some}
 use Prim.Native.Nat.{ℕ, _+_, _≤_, _<_}
 use native.Mathlib.Omega.{arith}
 use lib.Dec.{eqb}
-use lib.ListN.{length}
 use lib.Seq.{slice}
 use Rattle.model.specs.Number.{Bytes}
 use Rattle.model.specs.Shape.{Presence, Before, keyBefore, countBefore}

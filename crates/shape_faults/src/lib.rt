@@ -49,6 +49,7 @@ pub struct Walk {
     pub prior: Prior,
 }
 
+// No key before.
 pub fn no_key() -> Prior
     ensures { λ r. ⌜ r ≡ noKey ⌝ }
 {

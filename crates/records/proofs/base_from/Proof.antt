@@ -1,5 +1,4 @@
 -- `records::base_from` meets its contract.
-use mathlib.Core.Path.{_≡_}
 use borrow.Author.Needs.{needs}
 use Rattle.records.proofs.base_from.Statement.{statement}
 use Rattle.records.proofs.base_from.Tie as tie

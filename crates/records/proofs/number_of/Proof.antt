@@ -1,5 +1,4 @@
 -- `records::number_of` meets its contract, kind by kind.
-use mathlib.Core.Path.{_≡_}
 use borrow.Author.Needs.{needs}
 use Rattle.model.specs.Kind.{kindNumber}
 use Rattle.records.proofs.number_of.Statement.{statement}

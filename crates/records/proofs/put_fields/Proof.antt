@@ -1,6 +1,6 @@
 -- `records::put_fields` meets its contract. The invariant: the fields still to come, written where the last one ended, make what is to be
 -- written whole.
-use Prim.Native.Nat.{_+_, _-_, _≤_}
+use Prim.Native.Nat.{_-_, _≤_}
 use mathlib.Core.Path.{_≡_, refl, sym, _∙_}
 use native.Mathlib.Omega.{arith}
 use lib.ListN.{length}

@@ -1,5 +1,5 @@
 -- `records::put_head` meets its contract: a byte, then a number of two bytes after it.
-use mathlib.Core.Path.{_≡_, _∙_}
+use mathlib.Core.Path.{_∙_}
 use native.Mathlib.Omega.{arith}
 use borrow.Author.Needs.{needs}
 use lib.ListN.{length-set}

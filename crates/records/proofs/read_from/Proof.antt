@@ -1,5 +1,4 @@
 -- `records::read_from` meets its contract, exit by exit.
-use mathlib.Core.Path.{_≡_}
 use native.Mathlib.Omega.{arith}
 use borrow.Author.Needs.{needs}
 use Rattle.records.proofs.Bases.{kind-base}

@@ -2,7 +2,7 @@
 -- to come, after what came, is what is wrong with all. The calls end, since within an element no value is a run.
 use Prim.Native.Nat.{_+_, _-_, _≤_}
 use Prim.Native.Nat.{ℕ, _<_}
-use mathlib.Core.Path.{_≡_, refl, sym, ap, _∙_}
+use mathlib.Core.Path.{_≡_, _∙_}
 use mathlib.Core.Bool.{cond}
 use native.Mathlib.Omega.{arith}
 use borrow.Author.Needs.{needs}

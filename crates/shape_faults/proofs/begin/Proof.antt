@@ -1,5 +1,4 @@
 -- `shape_faults::begin` meets its contract.
-use mathlib.Core.Path.{_≡_}
 use borrow.Author.Needs.{needs}
 use Rattle.shape_faults.proofs.begin.Statement.{statement}
 use Rattle.shape_faults.proofs.begin.Tie as tie

@@ -1,5 +1,4 @@
 -- `shape_faults::count_of` meets its contract.
-use mathlib.Core.Path.{_≡_}
 use borrow.Author.Tests.{eq-eqb, ne-eqb}
 use Rattle.shape_faults.proofs.count_of.Statement.{statement}
 use Rattle.shape_faults.proofs.count_of.Tie as tie

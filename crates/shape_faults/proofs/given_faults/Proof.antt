@@ -1,7 +1,7 @@
 -- `shape_faults::given_faults` meets its contract. The invariant: what is wrong with the fields still to come, after what came, is what is
 -- wrong with all.
-use Prim.Native.Nat.{_+_, _-_, _≤_}
-use mathlib.Core.Path.{_≡_, refl, sym, ap, _∙_}
+use Prim.Native.Nat.{_-_, _≤_}
+use mathlib.Core.Path.{_≡_, refl, _∙_}
 use mathlib.Core.Bool.{false}
 use mathlib.Core.Option.{none}
 use native.Mathlib.Omega.{arith}

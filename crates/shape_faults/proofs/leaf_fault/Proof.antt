@@ -1,5 +1,4 @@
 -- `shape_faults::leaf_fault` meets its contract: each code is a form, and each form has its test.
-use mathlib.Core.Path.{_≡_}
 use borrow.Author.Tests.{eq-eqb, ne-eqb}
 use borrow.Author.Needs.{needs}
 use Rattle.model.specs.Shape.{leafFault}

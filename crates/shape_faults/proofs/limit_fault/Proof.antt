@@ -1,5 +1,4 @@
 -- `shape_faults::limit_fault` meets its contract.
-use mathlib.Core.Path.{_≡_}
 use borrow.Author.Tests.{le-leb, lt-leb}
 use Rattle.shape_faults.proofs.limit_fault.Statement.{statement}
 use Rattle.shape_faults.proofs.limit_fault.Tie as tie

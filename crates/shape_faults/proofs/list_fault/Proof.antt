@@ -1,5 +1,4 @@
 -- `shape_faults::list_fault` meets its contract, test by test.
-use mathlib.Core.Path.{_≡_}
 use borrow.Author.Tests.{eq-eqb, ne-eqb}
 use borrow.Author.Needs.{needs}
 use Rattle.shape_faults.proofs.list_fault.Statement.{statement}

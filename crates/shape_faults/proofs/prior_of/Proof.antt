@@ -1,5 +1,4 @@
 -- `shape_faults::prior_of` meets its contract.
-use mathlib.Core.Path.{_≡_}
 use borrow.Author.Tests.{eq-eqb, ne-eqb}
 use borrow.Author.Needs.{needs}
 use Rattle.shape_faults.proofs.prior_of.Statement.{statement}

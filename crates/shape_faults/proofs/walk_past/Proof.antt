@@ -1,5 +1,4 @@
 -- `shape_faults::walk_past` meets its contract: the key is kept exactly where the row repeats.
-use mathlib.Core.Path.{_≡_}
 use native.Mathlib.Omega.{arith}
 use borrow.Author.Needs.{needs}
 use Rattle.shape_faults.specs.Walk.{beforeIn}
