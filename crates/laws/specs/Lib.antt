@@ -7,4 +7,5 @@ pub mod Count
 pub mod Split
 pub mod Ids
 pub mod Ranks
+pub mod Refused
 pub mod Freeze

@@ -8,6 +8,7 @@ use shape_faults::faults;
 use shape_faults::given_faults;
 use shape_faults::no_key;
 pub use shape_faults::text_fault;
+use shapes::all_rows;
 use shapes::base_of;
 use shapes::stored_base_of;
 use wire::get16;
@@ -20,7 +21,7 @@ ghost use Rattle.model.specs.Run.{bytesOf};
 ghost use Rattle.model.specs.Shape.{logged, fault};
 ghost use Rattle.model.specs.Record.{read as readFrom, readOf, gathered, writeOf};
 ghost use Rattle.laws_records.specs.Runs.{Whole};
-ghost use Rattle.shapes.specs.Table.{kindBase};
+ghost use Rattle.shapes.specs.Table.{table, kindBase};
 ghost use Rattle.records.specs.Answers.{replied, gotReply, sourceOf, bodyLength, written, head};
 
 // Bytes used or written, or a refusal's number.
@@ -39,8 +40,9 @@ fn base_from(kind: u8, in_image: bool) -> usize
     base_of(kind)
 }
 
-// Reads the record at the start of `s`, as it stands in the log or in an image. Later bytes are not looked at.
-pub fn read_from(s: &[u8], in_image: bool) -> Answer
+// Reads the record at the start of `s`, as it stands in the log or in an image, by the table that is lent. Later bytes are not looked at.
+pub fn read_from(rows: &[u32], s: &[u8], in_image: bool) -> Answer
+    requires { ⌜ now rows ≡ table ⌝ }
     ensures { λ r. ⌜ replied r ≡ gotReply (readFrom (sourceOf «in_image») (now (s .entry))) ⌝ }
 {
     if s.len() < 3 {
@@ -55,7 +57,7 @@ pub fn read_from(s: &[u8], in_image: bool) -> Answer
         return Answer::Refused(UNKNOWN_KIND);
     }
     let end = 3 + len;
-    let f = faults(s, base, Cursor { at: 3, to: end }, false, no_key());
+    let f = faults(rows, s, base, Cursor { at: 3, to: end }, false, no_key());
     if f != 0 {
         return Answer::Refused(f);
     }
@@ -66,7 +68,8 @@ pub fn read_from(s: &[u8], in_image: bool) -> Answer
 pub fn read(s: &[u8]) -> Answer
     ensures { λ r. ⌜ replied r ≡ readOf (now (s .entry)) ⌝ }
 {
-    read_from(s, false)
+    let rows = all_rows();
+    read_from(&rows, s, false)
 }
 
 // A kind's number.
@@ -106,7 +109,8 @@ pub fn number_of(kind: Kind) -> u8
 fn fields_fault(kind: Kind, tags: &[u8], lengths: &[u16], values: &[u8]) -> u8
     ensures { λ r. ⌜ r ≡ fault logged kind (gathered (now (tags .entry)) (now (lengths .entry)) (now (values .entry))) ⌝ }
 {
-    given_faults(base_of(number_of(kind)), tags, lengths, values)
+    let rows = all_rows();
+    given_faults(&rows, base_of(number_of(kind)), tags, lengths, values)
 }
 
 // How long the bytes of some fields are.

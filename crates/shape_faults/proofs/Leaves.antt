@@ -5,7 +5,7 @@ use mathlib.Core.List.{[], _∷_}
 use mathlib.Core.Option.{Option, none}
 use Prim.Native.Nat.{ℕ, _+_, _-_, _≤_, _<_}
 use native.Mathlib.Omega.{arith}
-use borrow.Author.Tests.{not-true, not-false, lt-ltb, le-ltb}
+use borrow.Author.Tests.{not-true, not-false, lt-ltb, le-ltb, le-leb, lt-leb}
 use lib.ListN.{length, getD, take, drop}
 use Rattle.model.specs.Choice.{orThen, unless}
 use Rattle.model.specs.Number.{Bytes}
@@ -29,14 +29,14 @@ module _ (limit : ℕ) (v : Bytes) (t : Bool) (et : t ≡ isText v) where
 -- 2. Keys
 
 -- no key before, and one
-pub above-none : (s : Bytes) (p : Prior) (v : Bytes) → not (p .there) ≡ true → true ≡ ascends (priorKey s p) v
-above-none s p v h = rw (not-true (p .there) h)
+pub above-none : (s : Bytes) (p : Prior) (v : Bytes) → p .end < p .start → true ≡ ascends (priorKey s p) v
+above-none s p v h = rw (lt-leb (p .start) (p .end) h)
 
-pub above-some : (s : Bytes) (p : Prior) (v : Bytes) {o w : Order} → PriorIn s p → not (p .there) ≡ false
-    → ordering o ≡ compareBytes (take (p .start + p .len - p .start) (drop (p .start) s)) v → o ≡ w → isBelow (ordering w) ≡ ascends (priorKey s p) v
+pub above-some : (s : Bytes) (p : Prior) (v : Bytes) {o w : Order} → PriorIn s p → p .start ≤ p .end
+    → ordering o ≡ compareBytes (take (p .end - p .start) (drop (p .start) s)) v → o ≡ w → isBelow (ordering w) ≡ ascends (priorKey s p) v
 above-some s p v {o} {w} within h e q =
-    let k = part-slice s (p .start) (p .start + p .len) (omega arith) within in
-    rw (not-false (p .there) h, ← k, ← e, q)
+    let k = part-slice s (p .start) (p .end) h within in
+    rw (le-leb (p .start) (p .end) h, ← k, ← e, q)
 
 module _ (prior : Option Bytes) (limit : ℕ) (v : Bytes) (a : Bool) (ea : a ≡ ascends prior v) where
   pub key-not-above : not a ≡ true → 4 ≡ leafFault prior (mapKey limit) v

@@ -2,18 +2,15 @@
 use mathlib.Core.Path.{_≡_, refl, ap, _∙_}
 use mathlib.Core.Bool.{Bool, true, false, cond}
 use mathlib.Core.Option.{Option}
-use Prim.Native.Nat.{ℕ, zero, suc, _-_, _≤_, _<_}
+use Prim.Native.Nat.{ℕ, zero, suc, _≤_, _<_}
 use native.Mathlib.Omega.{arith}
 use borrow.Author.Tests.{ne-eqb}
-use lib.ListN.{length, take, drop}
-use lib.Seq.{slice}
 use Rattle.model.specs.Number.{Bytes}
 use Rattle.model.specs.Run.{runOf}
 use Rattle.model.specs.Shape.{nested, start, leafFault, valueFault, runFault}
 use Rattle.shapes.specs.Table.{formIn, sizeIn, baseOf, shapeAt, formOf, rowsFrom}
 use Rattle.shapes.proofs.Rows.{rows-from}
 use Rattle.shape_faults.specs.Walk.{IsBase, IsRow, checkAt}
-use Rattle.shape_faults.proofs.Parts.{part-slice}
 
 leaf-value : (key : Option Bytes) (form size : ℕ) (v : Bytes) → form < 7 → valueFault key (formOf form size) v ≡ leafFault key (formOf form size) v
 unfolding valueFault formOf
@@ -47,18 +44,16 @@ module _ (row : ℕ) {form size : ℕ} (is : IsRow row) (ef : form ≡ formIn ro
   pub run-is-base : IsBase size
   run-is-base = record { shape = shapeAt size; at = run-size }
 
-module _ (s : Bytes) (row from to : ℕ) (low : from ≤ to) (within : to ≤ length s) (prior before : Option Bytes) {inner : Bool} {form size r : ℕ}
-    (ef : form ≡ formIn row) (es : size ≡ sizeIn row) where
-  pub value-inner : inner ≡ true → r ≡ leafFault prior (formOf form size) (take (to - from) (drop from s))
-      → r ≡ checkAt inner prior before (formOf (formIn row) (sizeIn row)) (slice from to s)
-  value-inner h e = rw (h, ← ef, ← es, ← part-slice s from to low within) e
+module _ (row : ℕ) (v : Bytes) (prior before : Option Bytes) {inner : Bool} {form size r : ℕ} (ef : form ≡ formIn row) (es : size ≡ sizeIn row) where
+  pub value-inner : inner ≡ true → r ≡ leafFault prior (formOf form size) v → r ≡ checkAt inner prior before (formOf (formIn row) (sizeIn row)) v
+  value-inner h e = rw (h, ← ef, ← es) e
 
-  pub value-leaf : inner ≡ false → form < 7 → r ≡ leafFault before (formOf form size) (take (to - from) (drop from s))
-      → r ≡ checkAt inner prior before (formOf (formIn row) (sizeIn row)) (slice from to s)
-  value-leaf h k e = rw (h, ← ef, ← es, ← part-slice s from to low within, leaf-value before form size (take (to - from) (drop from s)) k) e
+  pub value-leaf : inner ≡ false → form < 7 → r ≡ leafFault before (formOf form size) v
+      → r ≡ checkAt inner prior before (formOf (formIn row) (sizeIn row)) v
+  value-leaf h k e = rw (h, ← ef, ← es, leaf-value before form size v k) e
 
-  pub value-run : IsRow row → inner ≡ false → 7 ≤ form → r ≡ runFault (checkAt true before) (rowsFrom size) start (runOf (slice from to s))
-      → r ≡ checkAt inner prior before (formOf (formIn row) (sizeIn row)) (slice from to s)
+  pub value-run : IsRow row → inner ≡ false → 7 ≤ form → r ≡ runFault (checkAt true before) (rowsFrom size) start (runOf v)
+      → r ≡ checkAt inner prior before (formOf (formIn row) (sizeIn row)) v
   unfolding valueFault
   value-run is h k e =
       let q = run-size row is ef es k in

@@ -4,6 +4,7 @@ use mathlib.Core.Bool.{Bool, true, false, cond}
 use mathlib.Core.Option.{Option, none, some}
 use Prim.Native.Nat.{ℕ, _+_, _≤_, _<_}
 use native.Mathlib.Omega.{arith}
+use borrow.Author.Tests.{le-leb}
 use lib.Dec.{eqb}
 use lib.Seq.{slice}
 use Rattle.model.specs.Number.{Bytes}
@@ -20,9 +21,9 @@ use Rattle.shape_faults.proofs.Tags.{repeats-many, repeats-once}
 -- 1. The key that was found
 
 module _ (s : Bytes) {r : Found} {key : Option Bytes} (e : held s r ≡ key) where
-  pub key-found : {at n : ℕ} → r ≡ Part at n → some (slice at (at + n) s) ≡ key
+  pub key-found : {at n : ℕ} → r ≡ Part at n → priorKey s (record { start = at; end = at + n }) ≡ key
   unfolding held
-  key-found {at} {n} h = rw h at e
+  key-found {at} {n} h = let k : some (slice at (at + n) s) ≡ key = rw h at e in rw (le-leb at (at + n) (omega arith)) k
 
   pub key-missing : r ≡ Missing → (p : Prior) → p ≡ noKey → (priorKey s p ≡ key) × PriorIn s p
   unfolding held

@@ -28,13 +28,13 @@ IsRow row = 7 ≤ formIn row → sizeIn row ≡ baseOf (shapeAt (sizeIn row))
 
 -- the key of the element before, where there is one
 abbrev pub priorKey : Bytes → Prior → Option Bytes
-priorKey s p = cond (p .there) (some (slice (p .start) (p .start + p .len) s)) none
+priorKey s p = cond (leb (p .start) (p .end)) (some (slice (p .start) (p .end) s)) none
 
 abbrev pub PriorIn : Bytes → Prior → Type 0
-PriorIn s p = p .start + p .len ≤ length s
+PriorIn s p = p .end ≤ length s
 
 abbrev pub noKey : Prior
-noKey = record { there = false; start = 0; len = 0 }
+noKey = record { start = 1; end = 0 }
 
 abbrev pub begun : Walk
 begun = record { last = 0; count = 0; prior = noKey }

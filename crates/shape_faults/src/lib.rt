@@ -17,7 +17,7 @@ ghost use lib.ListN.{length};
 ghost use lib.Seq.{slice};
 ghost use Rattle.model.specs.Shape.{start as nothing, textFault, leafFault, countFault, runFault, below, mapKey, ascends as isAbove};
 ghost use Rattle.model.specs.Record.{gathered};
-ghost use Rattle.shapes.specs.Table.{rowCount, formIn, sizeIn, formOf, presenceOf, rowsFrom};
+ghost use Rattle.shapes.specs.Table.{table, rowCount, formIn, sizeIn, formOf, presenceOf, rowsFrom};
 ghost use Rattle.fields.specs.Fields.{fieldsFrom, Inside};
 ghost use Rattle.shape_faults.specs.Walk.{IsBase, IsRow, priorKey, PriorIn, noKey, begun, priorFor, countFor, beforeIn, presenceAt, keyOf, passed, checkAt, limitFault, listFault, tagFault, endFault, fieldFault};
 
@@ -32,14 +32,18 @@ pub const OVER_A_LIMIT: u8 = 5;
 
 pub const TOO_SHORT: u8 = 19;
 
-// The form of a run of a shape's fields.
-const NESTED: u64 = 7;
+// Two of the wrong fields by name: a string that is no UTF-8, and a map's key that is not above the one before.
+const NO_TEXT: u8 = WRONG;
 
-// The key that an element of a map began with, if there was one.
+const OUT_OF_ORDER: u8 = WRONG;
+
+// The form of a run of a shape's fields.
+const NESTED: u32 = 7;
+
+// Where the key of the element before stands. There is none where the start is above the end.
 pub struct Prior {
-    pub there: bool,
     pub start: usize,
-    pub len: usize,
+    pub end: usize,
 }
 
 // What came before a field: the last tag, how often it came, the key of its last element.
@@ -53,11 +57,7 @@ pub struct Walk {
 pub fn no_key() -> Prior
     ensures { λ r. ⌜ r ≡ noKey ⌝ }
 {
-    Prior {
-        there: false,
-        start: 0,
-        len: 0,
-    }
+    Prior { start: 1, end: 0 }
 }
 
 // What is wrong with so many bytes or numbers: more than a limit.
@@ -75,7 +75,7 @@ pub fn text_fault(v: &[u8], limit: usize) -> u8
     ensures { λ r. ⌜ r ≡ textFault limit (now (v .entry)) ⌝ }
 {
     if !wire::is_text(v) {
-        return WRONG;
+        return NO_TEXT;
     }
     limit_fault(v.len(), limit)
 }
@@ -85,11 +85,11 @@ fn ascends(s: &[u8], prior: Prior, v: &[u8]) -> bool
     requires { ⌜ PriorIn (now s) prior ⌝ }
     ensures { λ r. ⌜ r ≡ isAbove (priorKey (now (s .entry)) prior) (now (v .entry)) ⌝ }
 {
-    if !prior.there {
+    let start = prior.start;
+    let end = prior.end;
+    if start > end {
         return true;
     }
-    let start = prior.start;
-    let end = start + prior.len;
     match wire::compare(&s[start..end], v) {
         Order::Less => true,
         Order::Equal => false,
@@ -103,7 +103,7 @@ fn key_fault(s: &[u8], prior: Prior, v: &[u8], limit: usize) -> u8
     ensures { λ r. ⌜ r ≡ leafFault (priorKey (now (s .entry)) prior) (mapKey limit) (now (v .entry)) ⌝ }
 {
     if !ascends(s, prior, v) {
-        return WRONG;
+        return OUT_OF_ORDER;
     }
     text_fault(v, limit)
 }
@@ -132,35 +132,36 @@ fn below_fault(v: &[u8], bound: usize) -> u8
     WRONG
 }
 
-// What is wrong with a value that is no run.
-fn leaf_fault(s: &[u8], prior: Prior, form: u64, size: usize, v: &[u8]) -> u8
-    requires { ⌜ PriorIn (now s) prior ⌝ }
-    ensures { λ r. ⌜ r ≡ leafFault (priorKey (now (s .entry)) prior) (formOf form size) (now (v .entry)) ⌝ }
+// What is wrong with a value that is no run, from one place to another.
+fn leaf_fault(s: &[u8], prior: Prior, form: u32, size: usize, from: usize, to: usize) -> u8
+    requires { ⌜ PriorIn (now s) prior × (from ≤ to) × (to ≤ length (now s)) ⌝ }
+    ensures { λ r. ⌜ r ≡ leafFault (priorKey (now (s .entry)) prior) (formOf form size) (slice from to (now (s .entry))) ⌝ }
 {
+    let len = to - from;
     match form {
-        0 => { if v.len() == size { 0 } else { WRONG } }
-        1 => below_fault(v, size),
-        2 => text_fault(v, size),
-        3 => key_fault(s, prior, v, size),
-        4 => limit_fault(v.len(), size),
-        5 => list_fault(v.len(), 8, size),
-        6 => list_fault(v.len(), 16, size),
+        0 => { if len == size { 0 } else { WRONG } }
+        1 => below_fault(&s[from..to], size),
+        2 => text_fault(&s[from..to], size),
+        3 => key_fault(s, prior, &s[from..to], size),
+        4 => limit_fault(len, size),
+        5 => list_fault(len, 8, size),
+        6 => list_fault(len, 16, size),
         _ => WRONG,
     }
 }
 
 // What is wrong with a tag after another: tags ascend and pass no required one; a tag comes again only where its row repeats.
-fn tag_fault(base: usize, last: usize, tag: usize) -> u8
-    requires { ⌜ IsBase base ⌝ }
+fn tag_fault(rows: &[u32], base: usize, last: usize, tag: usize) -> u8
+    requires { ⌜ (now rows ≡ table) × IsBase base ⌝ }
     ensures { λ r. ⌜ r ≡ tagFault (rowsFrom base) last tag ⌝ }
 {
     if tag == 0 {
         return WRONG;
     }
-    if tag > size_in(row_at(base)) {
+    if tag > size_in(row_at(rows, base)) {
         return WRONG;
     }
-    let row = row_at(base + tag);
+    let row = row_at(rows, base + tag);
     if last < tag {
         if prior_in(row) > last {
             return WRONG;
@@ -176,11 +177,11 @@ fn tag_fault(base: usize, last: usize, tag: usize) -> u8
 }
 
 // What is wrong with a run's end after a tag: a required field is missing.
-fn end_fault(base: usize, last: usize) -> u8
-    requires { ⌜ IsBase base ⌝ }
+fn end_fault(rows: &[u32], base: usize, last: usize) -> u8
+    requires { ⌜ (now rows ≡ table) × IsBase base ⌝ }
     ensures { λ r. ⌜ r ≡ endFault (rowsFrom base) last ⌝ }
 {
-    if prior_in(row_at(base)) > last {
+    if prior_in(row_at(rows, base)) > last {
         return WRONG;
     }
     0
@@ -242,21 +243,28 @@ fn key_of(s: &[u8], start: usize, len: usize) -> Prior
     };
     match field(s, from, 1) {
         Found::Part { start: at, len: n } => Prior {
-            there: true,
             start: at,
-            len: n,
+            end: at + n,
         },
         Found::Missing => no_key(),
     }
 }
 
 // What came before the next field. Only where a row repeats can its element's key matter.
-fn walk_past(s: &[u8], base: usize, w: Walk, tag: usize, start: usize, len: usize) -> Walk
-    requires { ⌜ (base + tag < rowCount) × (start + len ≤ length (now s)) × (w .count < 2 ^ 63) ⌝ }
+fn walk_past(
+    rows: &[u32],
+    s: &[u8],
+    base: usize,
+    w: Walk,
+    tag: usize,
+    start: usize,
+    len: usize,
+) -> Walk
+    requires { ⌜ (now rows ≡ table) × (base + tag < rowCount) × (start + len ≤ length (now s)) × (w .count < 2 ^ 63) ⌝ }
     ensures { λ r. ⌜ (beforeIn (now (s .entry)) r ≡ passed (presenceAt base tag) (beforeIn (now (s .entry)) w) tag (slice start (start + len) (now (s .entry)))) × PriorIn (now (s .entry)) (r .prior) ⌝ }
 {
     let count = count_of(w, tag) + 1;
-    if many_in(row_at(base + tag)) > 1 {
+    if many_in(row_at(rows, base + tag)) > 1 {
         return Walk {
             last: tag,
             count,
@@ -273,30 +281,32 @@ fn walk_past(s: &[u8], base: usize, w: Walk, tag: usize, start: usize, len: usiz
 // What is wrong with a value. Within an element (`inner`) no value is a run, and `prior` is the key of the element before; elsewhere `before` is
 // the key of the element before this one.
 fn value_fault(
+    rows: &[u32],
     s: &[u8],
-    row: u64,
+    row: u32,
     from: usize,
     to: usize,
     inner: bool,
     prior: Prior,
     before: Prior,
 ) -> u8
-    requires { ⌜ IsRow row × (from ≤ to) × (to ≤ length (now s)) × PriorIn (now s) prior × PriorIn (now s) before ⌝ }
+    requires { ⌜ (now rows ≡ table) × IsRow row × (from ≤ to) × (to ≤ length (now s)) × PriorIn (now s) prior × PriorIn (now s) before ⌝ }
     ensures { λ r. ⌜ r ≡ checkAt inner (priorKey (now (s .entry)) prior) (priorKey (now (s .entry)) before) (formOf (formIn row) (sizeIn row)) (slice from to (now (s .entry))) ⌝ }
 {
     let form = form_in(row);
     let size = size_in(row);
     if inner {
-        return leaf_fault(s, prior, form, size, &s[from..to]);
+        return leaf_fault(s, prior, form, size, from, to);
     }
     if form < NESTED {
-        return leaf_fault(s, before, form, size, &s[from..to]);
+        return leaf_fault(s, before, form, size, from, to);
     }
-    faults(s, size, Cursor { at: from, to }, true, before)
+    faults(rows, s, size, Cursor { at: from, to }, true, before)
 }
 
 // What is wrong with a field: its tag, its value, then that it is one too many.
 fn field_fault(
+    rows: &[u32],
     s: &[u8],
     base: usize,
     w: Walk,
@@ -306,15 +316,24 @@ fn field_fault(
     inner: bool,
     prior: Prior,
 ) -> u8
-    requires { ⌜ IsBase base × (start + len ≤ length (now s)) × PriorIn (now s) (w .prior) × PriorIn (now s) prior ⌝ }
+    requires { ⌜ (now rows ≡ table) × IsBase base × (start + len ≤ length (now s)) × PriorIn (now s) (w .prior) × PriorIn (now s) prior ⌝ }
     ensures { λ r. ⌜ r ≡ fieldFault (checkAt inner (priorKey (now (s .entry)) prior)) (rowsFrom base) (beforeIn (now (s .entry)) w) tag (slice start (start + len) (now (s .entry))) ⌝ }
 {
-    let f = tag_fault(base, w.last, tag);
+    let f = tag_fault(rows, base, w.last, tag);
     if f != 0 {
         return f;
     }
-    let row = row_at(base + tag);
-    let g = value_fault(s, row, start, start + len, inner, prior, prior_of(w, tag));
+    let row = row_at(rows, base + tag);
+    let g = value_fault(
+        rows,
+        s,
+        row,
+        start,
+        start + len,
+        inner,
+        prior,
+        prior_of(w, tag),
+    );
     if g != 0 {
         return g;
     }
@@ -322,8 +341,8 @@ fn field_fault(
 }
 
 // The first fault of the fields from a cursor on, 0 for none.
-pub fn faults(s: &[u8], base: usize, from: Cursor, inner: bool, prior: Prior) -> u8
-    requires { ⌜ IsBase base × Inside (now s) from × PriorIn (now s) prior ⌝ }
+pub fn faults(rows: &[u32], s: &[u8], base: usize, from: Cursor, inner: bool, prior: Prior) -> u8
+    requires { ⌜ (now rows ≡ table) × IsBase base × Inside (now s) from × PriorIn (now s) prior ⌝ }
     ensures { λ r. ⌜ r ≡ runFault (checkAt inner (priorKey (now (s .entry)) prior)) (rowsFrom base) nothing (fieldsFrom (now (s .entry)) from) ⌝ }
 {
     let mut c = from;
@@ -336,18 +355,18 @@ pub fn faults(s: &[u8], base: usize, from: Cursor, inner: bool, prior: Prior) ->
                 len,
                 next,
             } => {
-                let f = field_fault(s, base, w, tag, start, len, inner, prior);
+                let f = field_fault(rows, s, base, w, tag, start, len, inner, prior);
                 if f != 0 {
                     return f;
                 }
-                w = walk_past(s, base, w, tag, start, len);
+                w = walk_past(rows, s, base, w, tag, start, len);
                 c = next;
             }
             Step::Torn => {
                 return WRONG;
             }
             Step::End => {
-                return end_fault(base, w.last);
+                return end_fault(rows, base, w.last);
             }
         }
     }
@@ -355,8 +374,8 @@ pub fn faults(s: &[u8], base: usize, from: Cursor, inner: bool, prior: Prior) ->
 
 // The first fault of the fields that three lists give: tags, lengths, and values back to back. A field whose length is missing or runs past the
 // values is wrong, and so are lengths or values that are left over.
-pub fn given_faults(base: usize, tags: &[u8], lengths: &[u16], values: &[u8]) -> u8
-    requires { ⌜ IsBase base ⌝ }
+pub fn given_faults(rows: &[u32], base: usize, tags: &[u8], lengths: &[u16], values: &[u8]) -> u8
+    requires { ⌜ (now rows ≡ table) × IsBase base ⌝ }
     ensures { λ r. ⌜ r ≡ runFault (checkAt false none) (rowsFrom base) nothing (gathered (now (tags .entry)) (now (lengths .entry)) (now (values .entry))) ⌝ }
 {
     let mut w = begin();
@@ -371,11 +390,11 @@ pub fn given_faults(base: usize, tags: &[u8], lengths: &[u16], values: &[u8]) ->
             return WRONG;
         }
         let tag = wire::size(tags[i]);
-        let f = field_fault(values, base, w, tag, start, len, false, no_key());
+        let f = field_fault(rows, values, base, w, tag, start, len, false, no_key());
         if f != 0 {
             return f;
         }
-        w = walk_past(values, base, w, tag, start, len);
+        w = walk_past(rows, values, base, w, tag, start, len);
         start += len;
         i += 1;
     }
@@ -385,5 +404,5 @@ pub fn given_faults(base: usize, tags: &[u8], lengths: &[u16], values: &[u8]) ->
     if start < values.len() {
         return WRONG;
     }
-    end_fault(base, w.last)
+    end_fault(rows, base, w.last)
 }

@@ -23,10 +23,6 @@ pub base-past : (k : ℕ) → 26 ≤ k → rowCount ≡ kindBase logged k
 unfolding kindBase
 base-past k h = rw (kind-past k h)
 
--- a step towards it, from one number refused to the next
-pub past : {k x : ℕ} → k ≤ x → (x ≡ k → ⊥) → suc k ≤ x
-past h n = omega arith
-
 -- of other kinds than 1 the stored shape is the record's
 stored-same : (k : ℕ) (o : Option Kind) → kindOf k ≡ o → (k ≡ 1 → ⊥)
     → given o rowCount (λ n. baseOf (shapeOf stored n)) ≡ given o rowCount (λ n. baseOf (shapeOf logged n))

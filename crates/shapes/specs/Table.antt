@@ -75,7 +75,7 @@ howOften optional = 1
 howOften (upTo n) = n
 
 abbrev pub packed : ℕ → ℕ → ℕ → ℕ → ℕ
-packed form size prior many = form * 2 ^ 32 + size * 65536 + prior * 256 + many
+packed form size prior many = form * 2 ^ 28 + size * 65536 + prior * 256 + many
 
 -- rows from a tag on, after the greatest required tag `prior`
 unfoldable pub packRows : ℕ → ℕ → List Row → List ℕ
@@ -107,10 +107,10 @@ table = joined (λ s. packShape (rowsOf s)) shapes
 -- 2. From numbers to rows
 
 abbrev pub formIn : ℕ → ℕ
-formIn row = row / 0x100000000
+formIn row = row / 0x10000000
 
 abbrev pub sizeIn : ℕ → ℕ
-sizeIn row = row / 65536 % 65536
+sizeIn row = row / 65536 % 4096
 
 abbrev pub priorIn : ℕ → ℕ
 priorIn row = row / 256 % 256

@@ -15,187 +15,187 @@ const STORED_TOPIC: usize = 123;
 // Form: 0 a fixed width, 1 a byte below the size, 2 a string, 3 a map's key, 4 bytes, 5 node ids, 6 ids, 7 a run of the shape whose base the
 // size is. How often: 0 once, 1 at most once, else up to so many times.
 // Before a shape's rows stands one with the number of its fields and its greatest required tag.
-const ROWS: [u64; 149] = [
+const ROWS: [u32; 149] = [
     // 1 Topic
-    0x0_0004_04_00, // 4 fields
-    0x2_00ff_00_00, // name
-    0x0_0010_01_00, // topic_id
-    0x0_0004_02_00, // partitions
-    0x0_0002_03_00, // replication_factor
+    0x0_004_04_00, // 4 fields
+    0x2_0ff_00_00, // name
+    0x0_010_01_00, // topic_id
+    0x0_004_02_00, // partitions
+    0x0_002_03_00, // replication_factor
     // 2 Partition
-    0x0_000a_0a_00, // 10 fields
-    0x2_00ff_00_00, // topic
-    0x0_0004_01_00, // partition
-    0x0_0008_02_00, // leader
-    0x5_0040_03_00, // replicas
-    0x5_0040_04_00, // isr
-    0x0_0004_05_00, // leader_epoch
-    0x5_0040_06_00, // adding_replicas
-    0x5_0040_07_00, // removing_replicas
-    0x6_0040_08_00, // directories
-    0x0_0004_09_00, // partition_epoch
+    0x0_00a_0a_00, // 10 fields
+    0x2_0ff_00_00, // topic
+    0x0_004_01_00, // partition
+    0x0_008_02_00, // leader
+    0x5_040_03_00, // replicas
+    0x5_040_04_00, // isr
+    0x0_004_05_00, // leader_epoch
+    0x5_040_06_00, // adding_replicas
+    0x5_040_07_00, // removing_replicas
+    0x6_040_08_00, // directories
+    0x0_004_09_00, // partition_epoch
     // 3 BrokerRegistration
-    0x0_000c_0a_00, // 12 fields
-    0x0_0008_00_00, // node_id
-    0x0_0008_01_00, // broker_epoch
-    0x0_0010_02_00, // incarnation_id
-    0x2_00ff_03_00, // host
-    0x0_0002_04_00, // port
-    0x2_00ff_05_01, // rack
-    0x7_0081_05_10, // endpoints
-    0x6_0040_05_00, // log_dirs
-    0x1_0002_08_00, // fenced
-    0x1_0002_09_00, // in_controlled_shutdown
-    0x6_0040_0a_01, // cordoned_log_dirs
-    0x7_0091_0a_40, // features
+    0x0_00c_0a_00, // 12 fields
+    0x0_008_00_00, // node_id
+    0x0_008_01_00, // broker_epoch
+    0x0_010_02_00, // incarnation_id
+    0x2_0ff_03_00, // host
+    0x0_002_04_00, // port
+    0x2_0ff_05_01, // rack
+    0x7_081_05_10, // endpoints
+    0x6_040_05_00, // log_dirs
+    0x1_002_08_00, // fenced
+    0x1_002_09_00, // in_controlled_shutdown
+    0x6_040_0a_01, // cordoned_log_dirs
+    0x7_091_0a_40, // features
     // 4 DeleteTopic
-    0x0_0001_01_00, // 1 fields
-    0x2_00ff_00_00, // name
+    0x0_001_01_00, // 1 fields
+    0x2_0ff_00_00, // name
     // 5 TopicConfig
-    0x0_0002_01_00, // 2 fields
-    0x2_00ff_00_00, // topic
-    0x7_008e_01_40, // overrides
+    0x0_002_01_00, // 2 fields
+    0x2_0ff_00_00, // topic
+    0x7_08e_01_40, // overrides
     // 6 BrokerConfig
-    0x0_0003_02_00, // 3 fields
-    0x0_0008_00_00, // node_id
-    0x2_00ff_01_00, // config_name
-    0x2_00ff_02_01, // config_value
+    0x0_003_02_00, // 3 fields
+    0x0_008_00_00, // node_id
+    0x2_0ff_01_00, // config_name
+    0x2_0ff_02_01, // config_value
     // 7 ClientQuota
-    0x0_0003_02_00, // 3 fields
-    0x7_008b_00_08, // entity
-    0x2_00ff_00_00, // config_key
-    0x0_0008_02_01, // config_value
+    0x0_003_02_00, // 3 fields
+    0x7_08b_00_08, // entity
+    0x2_0ff_00_00, // config_key
+    0x0_008_02_01, // config_value
     // 8 ProducerIds
-    0x0_0003_03_00, // 3 fields
-    0x0_0008_00_00, // broker_id
-    0x0_0008_01_00, // broker_epoch
-    0x0_0008_02_00, // next_producer_id
+    0x0_003_03_00, // 3 fields
+    0x0_008_00_00, // broker_id
+    0x0_008_01_00, // broker_epoch
+    0x0_008_02_00, // next_producer_id
     // 9 UnregisterBroker
-    0x0_0002_02_00, // 2 fields
-    0x0_0008_00_00, // node_id
-    0x0_0008_01_00, // broker_epoch
+    0x0_002_02_00, // 2 fields
+    0x0_008_00_00, // node_id
+    0x0_008_01_00, // broker_epoch
     // 10 KRaftVersion
-    0x0_0001_01_00, // 1 fields
-    0x0_0002_00_00, // kraft_version
+    0x0_001_01_00, // 1 fields
+    0x0_002_00_00, // kraft_version
     // 11 FeatureLevel
-    0x0_0002_02_00, // 2 fields
-    0x2_00ff_00_00, // name
-    0x0_0002_01_00, // level
+    0x0_002_02_00, // 2 fields
+    0x2_0ff_00_00, // name
+    0x0_002_01_00, // level
     // 12 ClientMetricsConfig
-    0x0_0002_01_00, // 2 fields
-    0x2_00ff_00_00, // name
-    0x7_008e_01_40, // configs
+    0x0_002_01_00, // 2 fields
+    0x2_0ff_00_00, // name
+    0x7_08e_01_40, // configs
     // 13 FeaturesEpoch
-    0x0_0001_01_00, // 1 fields
-    0x0_0008_00_00, // epoch
+    0x0_001_01_00, // 1 fields
+    0x0_008_00_00, // epoch
     // 14 PartitionDirAssignment
-    0x0_0004_04_00, // 4 fields
-    0x2_00ff_00_00, // topic
-    0x0_0004_01_00, // partition
-    0x0_0008_02_00, // replica
-    0x0_0010_03_00, // directory
+    0x0_004_04_00, // 4 fields
+    0x2_0ff_00_00, // topic
+    0x0_004_01_00, // partition
+    0x0_008_02_00, // replica
+    0x0_010_03_00, // directory
     // 15 PartitionOffsetAdvance
-    0x0_0003_03_00, // 3 fields
-    0x2_00ff_00_00, // topic
-    0x0_0004_01_00, // partition
-    0x0_0008_02_00, // count
+    0x0_003_03_00, // 3 fields
+    0x2_0ff_00_00, // topic
+    0x0_004_01_00, // partition
+    0x0_008_02_00, // count
     // 16 GroupConfig
-    0x0_0002_01_00, // 2 fields
-    0x2_00ff_00_00, // group_id
-    0x7_008e_01_40, // configs
+    0x0_002_01_00, // 2 fields
+    0x2_0ff_00_00, // group_id
+    0x7_08e_01_40, // configs
     // 17 ControllerRegistration
-    0x0_0005_03_00, // 5 fields
-    0x0_0008_00_00, // node_id
-    0x0_0010_01_00, // incarnation_id
-    0x1_0002_02_00, // zk_migration_ready
-    0x7_0081_03_10, // endpoints
-    0x7_0091_03_40, // features
+    0x0_005_03_00, // 5 fields
+    0x0_008_00_00, // node_id
+    0x0_010_01_00, // incarnation_id
+    0x1_002_02_00, // zk_migration_ready
+    0x7_081_03_10, // endpoints
+    0x7_091_03_40, // features
     // 18 TopicFreeze
-    0x0_0009_09_00, // 9 fields
-    0x2_00ff_00_00, // scope
-    0x1_0002_01_00, // pattern_type
-    0x1_0002_02_00, // frozen
-    0x2_00ff_03_00, // reason
-    0x2_00ff_04_00, // set_by
-    0x0_0008_05_00, // set_at_ms
-    0x0_0010_06_00, // proposal_id
-    0x2_00ff_07_00, // key_id
-    0x4_0200_08_00, // signature
+    0x0_009_09_00, // 9 fields
+    0x2_0ff_00_00, // scope
+    0x1_002_01_00, // pattern_type
+    0x1_002_02_00, // frozen
+    0x2_0ff_03_00, // reason
+    0x2_0ff_04_00, // set_by
+    0x0_008_05_00, // set_at_ms
+    0x0_010_06_00, // proposal_id
+    0x2_0ff_07_00, // key_id
+    0x4_200_08_00, // signature
     // 19 BreakGlassProposal
-    0x0_000a_0a_00, // 10 fields
-    0x0_0010_00_00, // proposal_id
-    0x1_0007_01_00, // action
-    0x2_00ff_02_00, // target
-    0x2_00ff_03_00, // proposer
-    0x2_00ff_04_00, // reason
-    0x0_0008_05_00, // created_at_ms
-    0x0_0008_06_00, // expires_at_ms
-    0x7_0086_07_10, // approvals
-    0x0_0008_07_00, // consumed_at_ms
-    0x1_0002_09_00, // withdrawn
+    0x0_00a_0a_00, // 10 fields
+    0x0_010_00_00, // proposal_id
+    0x1_007_01_00, // action
+    0x2_0ff_02_00, // target
+    0x2_0ff_03_00, // proposer
+    0x2_0ff_04_00, // reason
+    0x0_008_05_00, // created_at_ms
+    0x0_008_06_00, // expires_at_ms
+    0x7_086_07_10, // approvals
+    0x0_008_07_00, // consumed_at_ms
+    0x1_002_09_00, // withdrawn
     // 20 DeleteBreakGlassProposal
-    0x0_0001_01_00, // 1 fields
-    0x0_0010_00_00, // proposal_id
+    0x0_001_01_00, // 1 fields
+    0x0_010_00_00, // proposal_id
     // 21 PartitionElr
-    0x0_0004_04_00, // 4 fields
-    0x2_00ff_00_00, // topic
-    0x0_0004_01_00, // partition
-    0x5_0040_02_00, // eligible_leader_replicas
-    0x5_0040_03_00, // last_known_elr
+    0x0_004_04_00, // 4 fields
+    0x2_0ff_00_00, // topic
+    0x0_004_01_00, // partition
+    0x5_040_02_00, // eligible_leader_replicas
+    0x5_040_03_00, // last_known_elr
     // 22 PartitionRecovery
-    0x0_0003_03_00, // 3 fields
-    0x2_00ff_00_00, // topic
-    0x0_0004_01_00, // partition
-    0x1_0002_02_00, // state
+    0x0_003_03_00, // 3 fields
+    0x2_0ff_00_00, // topic
+    0x0_004_01_00, // partition
+    0x1_002_02_00, // state
     // 23 PartitionUpdate
-    0x0_0004_01_00, // 4 fields
-    0x7_0005_00_00, // partition
-    0x5_0040_01_01, // eligible_leader_replicas
-    0x5_0040_01_01, // last_known_elr
-    0x1_0002_01_01, // recovery_state
+    0x0_004_01_00, // 4 fields
+    0x7_005_00_00, // partition
+    0x5_040_01_01, // eligible_leader_replicas
+    0x5_040_01_01, // last_known_elr
+    0x1_002_01_01, // recovery_state
     // 24 BrokerRegistrationChange
-    0x0_0006_05_00, // 6 fields
-    0x0_0008_00_00, // node_id
-    0x0_0008_01_00, // broker_epoch
-    0x1_0003_02_00, // fenced
-    0x1_0002_03_00, // in_controlled_shutdown
-    0x6_0040_04_00, // log_dirs
-    0x6_0040_05_01, // cordoned_log_dirs
+    0x0_006_05_00, // 6 fields
+    0x0_008_00_00, // node_id
+    0x0_008_01_00, // broker_epoch
+    0x1_003_02_00, // fenced
+    0x1_002_03_00, // in_controlled_shutdown
+    0x6_040_04_00, // log_dirs
+    0x6_040_05_01, // cordoned_log_dirs
     // 25 UnregisterController
-    0x0_0001_01_00, // 1 fields
-    0x0_0008_00_00, // node_id
+    0x0_001_01_00, // 1 fields
+    0x0_008_00_00, // node_id
     // the topic as an image stores it
-    0x0_0005_05_00, // 5 fields
-    0x2_00ff_00_00, // name
-    0x0_0010_01_00, // topic_id
-    0x0_0004_02_00, // partitions
-    0x0_0002_03_00, // replication_factor
-    0x0_0005_04_00, // named
+    0x0_005_05_00, // 5 fields
+    0x2_0ff_00_00, // name
+    0x0_010_01_00, // topic_id
+    0x0_004_02_00, // partitions
+    0x0_002_03_00, // replication_factor
+    0x0_005_04_00, // named
     // Endpoint
-    0x0_0004_04_00, // 4 fields
-    0x2_00ff_00_00, // name
-    0x2_00ff_01_00, // host
-    0x0_0002_02_00, // port
-    0x1_0004_03_00, // protocol
+    0x0_004_04_00, // 4 fields
+    0x2_0ff_00_00, // name
+    0x2_0ff_01_00, // host
+    0x0_002_02_00, // port
+    0x1_004_03_00, // protocol
     // Approval
-    0x0_0004_04_00, // 4 fields
-    0x2_00ff_00_00, // principal
-    0x0_0008_01_00, // approved_at_ms
-    0x2_00ff_02_00, // key_id
-    0x4_0200_03_00, // signature
+    0x0_004_04_00, // 4 fields
+    0x2_0ff_00_00, // principal
+    0x0_008_01_00, // approved_at_ms
+    0x2_0ff_02_00, // key_id
+    0x4_200_03_00, // signature
     // Entity
-    0x0_0002_01_00, // 2 fields
-    0x2_00ff_00_00, // entity_type
-    0x2_00ff_01_01, // entity_name
+    0x0_002_01_00, // 2 fields
+    0x2_0ff_00_00, // entity_type
+    0x2_0ff_01_01, // entity_name
     // Pair
-    0x0_0002_02_00, // 2 fields
-    0x3_00ff_00_00, // key
-    0x2_00ff_01_00, // value
+    0x0_002_02_00, // 2 fields
+    0x3_0ff_00_00, // key
+    0x2_0ff_01_00, // value
     // Feature
-    0x0_0003_03_00, // 3 fields
-    0x3_00ff_00_00, // name
-    0x0_0002_01_00, // low
-    0x0_0002_02_00, // high
+    0x0_003_03_00, // 3 fields
+    0x3_0ff_00_00, // name
+    0x0_002_01_00, // low
+    0x0_002_02_00, // high
 ];
 
 // Where the rows of a kind's record begin: the kind number decides. Other numbers are no kinds.
@@ -242,34 +242,41 @@ pub fn stored_base_of(kind: u8) -> usize
     base_of(kind)
 }
 
+// The table. Indexing the constant itself would set it up at each row.
+pub fn all_rows() -> [u32; 149]
+    ensures { λ r. ⌜ r ≡ table ⌝ }
+{
+    ROWS
+}
+
 // A row.
-pub fn row_at(i: usize) -> u64
-    requires { ⌜ i < rowCount ⌝ }
+pub fn row_at(rows: &[u32], i: usize) -> u32
+    requires { ⌜ (now rows ≡ table) × (i < rowCount) ⌝ }
     ensures { λ r. ⌜ r ≡ getD table i 0 ⌝ }
 {
-    ROWS[i]
+    rows[i]
 }
 
 // A row's parts.
-pub fn form_in(row: u64) -> u64
+pub fn form_in(row: u32) -> u32
     ensures { λ r. ⌜ r ≡ formIn row ⌝ }
 {
-    row / 0x1_0000_0000
+    row / 0x1000_0000
 }
 
-pub fn size_in(row: u64) -> usize
+pub fn size_in(row: u32) -> usize
     ensures { λ r. ⌜ r ≡ sizeIn row ⌝ }
 {
-    (row / 65536 % 65536) as usize
+    (row / 65536 % 4096) as usize
 }
 
-pub fn prior_in(row: u64) -> usize
+pub fn prior_in(row: u32) -> usize
     ensures { λ r. ⌜ r ≡ priorIn row ⌝ }
 {
     (row / 256 % 256) as usize
 }
 
-pub fn many_in(row: u64) -> usize
+pub fn many_in(row: u32) -> usize
     ensures { λ r. ⌜ r ≡ manyIn row ⌝ }
 {
     (row % 256) as usize

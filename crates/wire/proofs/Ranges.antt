@@ -8,7 +8,7 @@ use native.Mathlib.Omega.{arith}
 use native.Mathlib.Decide.{decLt}
 use lib.Dec.{eqb, ltb}
 use lib.ListN.{length, getD, drop, getElem?, drop-of-length-le}
-use borrow.Author.Tests.{ltb-true}
+use borrow.Author.Tests.{ltb-true, le-leb}
 use Rattle.model.specs.Choice.{given}
 use Rattle.model.specs.Number.{Bytes}
 use Rattle.model.specs.Text.{Range, within, to, any-tail, wellFormed, following, textAfter, isText}
@@ -89,6 +89,11 @@ end-wants = agree (λ q. eqb q 0) (λ q. completed (wants q) []) 9 refl
 pub text-start : (s : Bytes) → completed (wants 0) s ≡ isText s
 unfolding wants
 text-start s = refl
+
+-- a byte below 0x80 is a character by itself
+pub text-ascii : (s : Bytes) (at : ℕ) → at < length s → getD s at 0 < 0x80 → isText (drop (at + 1) s) ≡ isText (drop at s)
+unfolding textAfter following wellFormed
+text-ascii s at h l = rw (drop-step s at h, le-leb 0 (getD s at 0) (omega arith), le-leb (getD s at 0) 0x7f (omega arith))
 
 pub text-step : (s : Bytes) (at q r : ℕ) → q < 9 → at < length s → getD s at 0 < 256 → r ≡ step q (getD s at 0)
     → (r < 9) × (completed (wants r) (drop (at + 1) s) ≡ completed (wants q) (drop at s))

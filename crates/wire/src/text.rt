@@ -1,5 +1,7 @@
 // The UTF-8 test: a byte at a time, with what the sequence begun still wants as a state.
 ghost use mathlib.Core.Path.{_≡_};
+ghost use Prim.Native.Nat.{_≤_};
+ghost use lib.ListN.{length, drop};
 ghost use Rattle.model.specs.Text.{isText};
 ghost use Rattle.wire.specs.States.{lead, tail, step};
 
@@ -66,12 +68,26 @@ fn next_state(q: u8, b: u8) -> u8
     }
 }
 
+// How many bytes at the start are below 0x80, each a character by itself.
+fn ascii_length(s: &[u8]) -> usize
+    ensures { λ r. ⌜ (r ≤ length (now (s .entry))) × (isText (drop r (now (s .entry))) ≡ isText (now (s .entry))) ⌝ }
+{
+    let mut at = 0;
+    while at < s.len() {
+        if s[at] >= 0x80 {
+            return at;
+        }
+        at += 1;
+    }
+    at
+}
+
 // Whether the bytes are UTF-8.
 pub fn is_text(s: &[u8]) -> bool
     ensures { λ r. ⌜ r ≡ isText (now (s .entry)) ⌝ }
 {
     let mut q: u8 = 0;
-    let mut at = 0;
+    let mut at = ascii_length(s);
     while at < s.len() {
         q = next_state(q, s[at]);
         at += 1;

@@ -5,6 +5,12 @@ use Rattle.records.proofs.Bases.{kind-fault, record-base}
 use Rattle.records.proofs.fields_fault.Statement.{statement}
 use Rattle.records.proofs.fields_fault.Tie as tie
 
+all-rows-requires : tie.Need-all-rows-requires
+all-rows-requires c κs = search needs
+
+slice-aggregate-given-faults : tie.Need-slice-aggregate-given-faults
+slice-aggregate-given-faults c = search needs
+
 number-of-requires : tie.Need-number-of-requires
 number-of-requires c κs = search needs
 
@@ -12,11 +18,19 @@ base-of-requires : tie.Need-base-of-requires
 base-of-requires c κs = search needs
 
 given-faults-requires : tie.Need-given-faults-requires
-given-faults-requires c κs = record { shape = _; at = record-base _ (c .before .number-of .ensures) (c .base-of .ensures) }
+given-faults-requires c κs =
+    (c .before .before .before .all-rows .ensures, record { shape = _; at = record-base _ (c .before .number-of .ensures) (c .base-of .ensures) })
 
 returns : tie.Need-returns
 returns c = c .given-faults .ensures ∙ kind-fault _ _ (record-base _ (c .before .before .number-of .ensures) (c .before .base-of .ensures)) _
 
 pub fields-fault-spec : {M : Type 1} → statement M
 fields-fault-spec =
-    tie.close (tie.spec number-of-requires base-of-requires given-faults-requires returns)
+    tie.close
+    (tie.spec
+    all-rows-requires
+    slice-aggregate-given-faults
+    number-of-requires
+    base-of-requires
+    given-faults-requires
+    returns)

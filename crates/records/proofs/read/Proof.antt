@@ -4,6 +4,12 @@ use Rattle.model.specs.Record.{readOf}
 use Rattle.records.proofs.read.Statement.{statement}
 use Rattle.records.proofs.read.Tie as tie
 
+all-rows-requires : tie.Need-all-rows-requires
+all-rows-requires c κs = search needs
+
+slice-aggregate-read-from : tie.Need-slice-aggregate-read-from
+slice-aggregate-read-from c = search needs
+
 read-from-requires : tie.Need-read-from-requires
 read-from-requires c κs = search needs
 
@@ -12,4 +18,5 @@ unfolding readOf
 returns c = c .read-from .ensures
 
 pub read-spec : {M : Type 1} → statement M
-read-spec = tie.close (tie.spec read-from-requires returns)
+read-spec =
+    tie.close (tie.spec all-rows-requires slice-aggregate-read-from read-from-requires returns)

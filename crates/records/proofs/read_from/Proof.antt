@@ -34,7 +34,7 @@ no-key-requires : tie.Need-no-key-requires
 no-key-requires c κs = search needs
 
 faults-requires : tie.Need-faults-requires
-faults-requires c κs = (kind-base _ _ (c .before .before .base-from .ensures) (c .before .if3 .left), search needs, rw (c .no-key .ensures) (omega arith))
+faults-requires c κs = (c .before .before .before .before .before .before .before .before .before .pre, kind-base _ _ (c .before .before .base-from .ensures) (c .before .if3 .left), search needs, rw (c .no-key .ensures) (omega arith))
 
 returns-4 : tie.Need-returns-4
 returns-4 c =

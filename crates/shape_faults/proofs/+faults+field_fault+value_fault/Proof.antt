@@ -42,36 +42,36 @@ use Rattle.shape_faults.proofs.walk_past.Reads as walk-past-reads
 use Rattle.shape_faults.proofs.+faults+field_fault+value_fault.{statement}
 use Rattle.shape_faults.proofs.+faults+field_fault+value_fault.Tie.{close}
 
-abbrev μ-faults : Measures 1 faults-kinds.ps ℕ
-μ-faults κs a = cond (a .1 .1 .1 .0) 0 3 + 2
+abbrev μ-faults : Measures 2 faults-kinds.ps ℕ
+μ-faults κs a = cond (a .1 .1 .1 .1 .0) 0 3 + 2
 
-abbrev μ-field-fault : Measures 1 field-fault-kinds.ps ℕ
-μ-field-fault κs a = cond (a .1 .1 .1 .1 .1 .1 .0) 0 3 + 1
+abbrev μ-field-fault : Measures 2 field-fault-kinds.ps ℕ
+μ-field-fault κs a = cond (a .1 .1 .1 .1 .1 .1 .1 .0) 0 3 + 1
 
-abbrev μ-value-fault : Measures 1 value-fault-kinds.ps ℕ
-μ-value-fault κs a = cond (a .1 .1 .1 .1 .0) 0 3
+abbrev μ-value-fault : Measures 2 value-fault-kinds.ps ℕ
+μ-value-fault κs a = cond (a .1 .1 .1 .1 .1 .0) 0 3
 
-abbrev faults-at : ℕ → In 1 faults-kinds.ps
-faults-at t = and 1 faults-kinds.ps (is 1 faults-kinds.ps μ-faults t) faults.Pre
+abbrev faults-at : ℕ → In 2 faults-kinds.ps
+faults-at t = and 2 faults-kinds.ps (is 2 faults-kinds.ps μ-faults t) faults.Pre
 
-abbrev faults-below : ℕ → In 1 faults-kinds.ps
-faults-below t = and 1 faults-kinds.ps (falls 1 faults-kinds.ps _<_ μ-faults t) faults.Pre
+abbrev faults-below : ℕ → In 2 faults-kinds.ps
+faults-below t = and 2 faults-kinds.ps (falls 2 faults-kinds.ps _<_ μ-faults t) faults.Pre
 
-abbrev field-fault-at : ℕ → In 1 field-fault-kinds.ps
+abbrev field-fault-at : ℕ → In 2 field-fault-kinds.ps
 field-fault-at t =
-    and 1 field-fault-kinds.ps (is 1 field-fault-kinds.ps μ-field-fault t) field-fault.Pre
+    and 2 field-fault-kinds.ps (is 2 field-fault-kinds.ps μ-field-fault t) field-fault.Pre
 
-abbrev field-fault-below : ℕ → In 1 field-fault-kinds.ps
+abbrev field-fault-below : ℕ → In 2 field-fault-kinds.ps
 field-fault-below t =
-    and 1 field-fault-kinds.ps (falls 1 field-fault-kinds.ps _<_ μ-field-fault t) field-fault.Pre
+    and 2 field-fault-kinds.ps (falls 2 field-fault-kinds.ps _<_ μ-field-fault t) field-fault.Pre
 
-abbrev value-fault-at : ℕ → In 1 value-fault-kinds.ps
+abbrev value-fault-at : ℕ → In 2 value-fault-kinds.ps
 value-fault-at t =
-    and 1 value-fault-kinds.ps (is 1 value-fault-kinds.ps μ-value-fault t) value-fault.Pre
+    and 2 value-fault-kinds.ps (is 2 value-fault-kinds.ps μ-value-fault t) value-fault.Pre
 
-abbrev value-fault-below : ℕ → In 1 value-fault-kinds.ps
+abbrev value-fault-below : ℕ → In 2 value-fault-kinds.ps
 value-fault-below t =
-    and 1 value-fault-kinds.ps (falls 1 value-fault-kinds.ps _<_ μ-value-fault t) value-fault.Pre
+    and 2 value-fault-kinds.ps (falls 2 value-fault-kinds.ps _<_ μ-value-fault t) value-fault.Pre
 
 abbrev faults-claims : ℕ → faults-lts.Claims
 faults-claims t =
@@ -86,23 +86,23 @@ value-claims t =
     (form-in-reads.Asked, form-in-reads.Learnt, size-in-reads.Asked, size-in-reads.Learnt, leaf-fault-reads.Asked, leaf-fault-reads.Learnt, faults-below t, faults.Post)
 
 abbrev faults-Inv-loop : faults-lts.InvT-loop
-faults-Inv-loop s base inner prior c₀ w₀ c w =
+faults-Inv-loop rows s base inner prior c₀ w₀ c w =
     (c .at ≤ c .to) × (c .to ≤ length s) × PriorIn s (w .prior) × (w .count ≤ c .at)
     × (runFault (checkAt inner (priorKey s prior)) (rowsFrom base) (beforeIn s w) (fieldsFrom s c)
     ≡ runFault (checkAt inner (priorKey s prior)) (rowsFrom base) start (fieldsFrom s c₀))
 
 abbrev faults-μ-loop : faults-lts.MeasureT-loop
-faults-μ-loop s base inner prior c₀ w₀ c w = c .to - c .at
+faults-μ-loop rows s base inner prior c₀ w₀ c w = c .to - c .at
 
 faults-begin-requires : (t : ℕ) → faults-lts.Need-begin-requires (faults-claims t) (faults-at t) faults.Post faults-Inv-loop faults-μ-loop
 faults-begin-requires t c κs = tt
 
 faults-loop-holds : (t : ℕ) → faults-lts.Need-loop-holds (faults-claims t) (faults-at t) faults.Post faults-Inv-loop faults-μ-loop
 faults-loop-holds t c =
-    let p = c .before .before .pre .1 in
-    let s = c .before .before .args .s .now in
+    let p = c .before .before .before .pre .1 in
+    let s = c .before .before .before .args .s .now in
     let e = c .begin .ensures in
-    (p .1 .0, p .1 .1, begun-in s e, omega (arith, begun-count s e), on-begun _ _ s e _)
+    (p .2 .0, p .2 .1, begun-in s e, omega (arith, begun-count s e), on-begun _ _ s e _)
 
 faults-next-requires : (t : ℕ) → faults-lts.Need-next-requires (faults-claims t) (faults-at t) faults.Post faults-Inv-loop faults-μ-loop
 faults-next-requires t c κs = (c .loop .inv .0, c .loop .inv .1)
@@ -113,8 +113,8 @@ faults-enum-known-tag t c = search needs
 faults-field-fault-requires : (t : ℕ) → faults-lts.Need-field-fault-requires (faults-claims t) (faults-at t) faults.Post faults-Inv-loop faults-μ-loop
 faults-field-fault-requires t c κs =
     let m = moved (c .before .tag .given .1) (c .before .before .before .next .ensures .1) in
-    let p = c .before .before .before .before .before .before .before .pre in
-    (omega arith, (p .1 .0, omega arith, c .before .before .before .before .loop .inv .2, p .1 .2))
+    let p = c .before .before .before .before .before .before .before .before .pre in
+    (omega arith, (p .1 .0, p .1 .1, omega arith, c .before .before .before .before .loop .inv .2, p .1 .3))
 
 faults-returns : (t : ℕ) → faults-lts.Need-returns (faults-claims t) (faults-at t) faults.Post faults-Inv-loop faults-μ-loop
 faults-returns t c =
@@ -124,7 +124,8 @@ faults-returns t c =
 faults-walk-past-requires : (t : ℕ) → faults-lts.Need-walk-past-requires (faults-claims t) (faults-at t) faults.Post faults-Inv-loop faults-μ-loop
 faults-walk-past-requires t c κs =
     let m = moved (c .before .before .before .tag .given .1) (c .before .before .before .before .before .next .ensures .1) in
-    (field-fits _ (c .before .before .before .before .before .before .before .before .before .pre .1 .0) _ _ _ (c .before .field-fault .ensures) (c .if1 .left), omega arith, omega arith)
+    let p = c .before .before .before .before .before .before .before .before .before .before .pre .1 in
+    (p .0, field-fits _ (p .1) _ _ _ (c .before .field-fault .ensures) (c .if1 .left), omega arith, omega arith)
 
 faults-loop-less : (t : ℕ) → faults-lts.Need-loop-less (faults-claims t) (faults-at t) faults.Post faults-Inv-loop faults-μ-loop
 faults-loop-less t c = let m = moved (c .before .before .before .before .tag .given .1) (c .before .before .before .before .before .before .next .ensures .1) in omega arith
@@ -137,7 +138,7 @@ faults-loop-again t c =
       omega arith,
       c .walk-past .ensures .1,
       omega arith,
-      on-field _ (c .before .before .before .before .before .before .before .before .before .before .pre .1 .0) _ _ _ (c .before .before .field-fault .ensures) (c .before .if1 .left) (took _ (c .before .before .before .before .before .before .next .ensures .0) (c .before .before .before .before .tag .given .1))
+      on-field _ (c .before .before .before .before .before .before .before .before .before .before .before .pre .1 .1) _ _ _ (c .before .before .field-fault .ensures) (c .before .if1 .left) (took _ (c .before .before .before .before .before .before .next .ensures .0) (c .before .before .before .before .tag .given .1))
           (c .walk-past .ensures .0) ∙ c .before .before .before .before .before .before .before .loop .inv .4,
     )
 
@@ -151,22 +152,26 @@ faults-enum-told-2 : (t : ℕ) → faults-lts.Need-enum-told-2 (faults-claims t)
 faults-enum-told-2 t c = search needs
 
 faults-end-fault-requires : (t : ℕ) → faults-lts.Need-end-fault-requires (faults-claims t) (faults-at t) faults.Post faults-Inv-loop faults-μ-loop
-faults-end-fault-requires t c κs = c .before .before .before .before .before .before .pre .1 .0
+faults-end-fault-requires t c κs =
+    let p = c .before .before .before .before .before .before .before .pre .1 in
+    (p .0, p .1)
 
 faults-returns-3 : (t : ℕ) → faults-lts.Need-returns-3 (faults-claims t) (faults-at t) faults.Post faults-Inv-loop faults-μ-loop
 faults-returns-3 t c = c .end-fault .ensures ∙ on-done _ _ _ (ended _ (c .before .before .before .next .ensures .0) (c .before .enum-told2 .given .1)) ∙ c .before .before .before .before .loop .inv .4
 
 field-fault-tag-fault-requires : (t : ℕ) → field-fault-lts.Need-tag-fault-requires (field-claims t) (field-fault-at t) field-fault.Post
-field-fault-tag-fault-requires t c κs = c .before .pre .1 .0
+field-fault-tag-fault-requires t c κs = (c .before .before .pre .1 .0, c .before .before .pre .1 .1)
 
 field-fault-returns : (t : ℕ) → field-fault-lts.Need-returns (field-claims t) (field-fault-at t) field-fault.Post
 field-fault-returns t c = field-tag _ _ _ _ _ (c .before .tag-fault .ensures) (c .if1 .taken)
 
 field-fault-add-row-at : (t : ℕ) → field-fault-lts.Need-add-row-at (field-claims t) (field-fault-at t) field-fault.Post
-field-fault-add-row-at t c = omega (arith, row-fits (c .before .before .before .pre .1 .0) _ _ (c .before .tag-fault .ensures) (c .if1 .left))
+field-fault-add-row-at t c = omega (arith, row-fits (c .before .before .before .before .pre .1 .1) _ _ (c .before .tag-fault .ensures) (c .if1 .left))
 
 field-fault-row-at-requires : (t : ℕ) → field-fault-lts.Need-row-at-requires (field-claims t) (field-fault-at t) field-fault.Post
-field-fault-row-at-requires t c κs = row-fits (c .before .before .before .pre .1 .0) _ _ (c .before .tag-fault .ensures) (c .if1 .left)
+field-fault-row-at-requires t c κs =
+    let p = c .before .before .before .before .pre .1 in
+    (p .0, row-fits (p .1) _ _ (c .before .tag-fault .ensures) (c .if1 .left))
 
 field-fault-add-value-fault : (t : ℕ) → field-fault-lts.Need-add-value-fault (field-claims t) (field-fault-at t) field-fault.Post
 field-fault-add-value-fault t c = omega arith
@@ -176,23 +181,24 @@ field-fault-prior-of-requires t c κs = tt
 
 field-fault-value-fault-requires : (t : ℕ) → field-fault-lts.Need-value-fault-requires (field-claims t) (field-fault-at t) field-fault.Post
 field-fault-value-fault-requires t c κs =
-    let p = c .before .before .before .before .before .pre in
-    let a = c .before .before .before .before .before .args in (
+    let p = c .before .before .before .before .before .before .pre in
+    let a = c .before .before .before .before .before .before .args in (
       omega arith,
       (
-        is-row (p .1 .0) _ _ (c .before .before .before .tag-fault .ensures) (c .before .before .if1 .left) (c .before .row-at .ensures),
+        p .1 .0,
+        is-row (p .1 .1) _ _ (c .before .before .before .tag-fault .ensures) (c .before .before .if1 .left) (c .before .row-at .ensures),
         omega arith,
-        p .1 .1,
-        p .1 .3,
-        prior-in (a .w) (a .tag) (a .s .now) (c .prior-of .result) (c .prior-of .ensures) (p .1 .2),
+        p .1 .2,
+        p .1 .4,
+        prior-in (a .w) (a .tag) (a .s .now) (c .prior-of .result) (c .prior-of .ensures) (p .1 .3),
       ),
     )
 
 field-fault-returns-2 : (t : ℕ) → field-fault-lts.Need-returns-2 (field-claims t) (field-fault-at t) field-fault.Post
 field-fault-returns-2 t c =
-    let a = c .before .before .before .before .before .before .before .args in
+    let a = c .before .before .before .before .before .before .before .before .args in
     let k = prior-key (a .w) (a .tag) (a .s .now) (c .before .before .prior-of .result) (c .before .before .prior-of .ensures) in
-    field-value _ _ _ _ _ (c .before .before .before .before .before .tag-fault .ensures) (c .before .before .before .before .if1 .left) (row-there (c .before .before .before .before .before .before .before .pre .1 .0) _ _ (c .before .before .before .before .before .tag-fault .ensures) (c .before .before .before .before .if1 .left))
+    field-value _ _ _ _ _ (c .before .before .before .before .before .tag-fault .ensures) (c .before .before .before .before .if1 .left) (row-there (c .before .before .before .before .before .before .before .before .pre .1 .1) _ _ (c .before .before .before .before .before .tag-fault .ensures) (c .before .before .before .before .if1 .left))
     (c .before .before .before .row-at .ensures) k (c .before .value-fault .ensures) (c .if2 .taken)
 
 field-fault-many-in-requires : (t : ℕ) → field-fault-lts.Need-many-in-requires (field-claims t) (field-fault-at t) field-fault.Post
@@ -206,9 +212,9 @@ field-fault-count-fault-requires t c κs = tt
 
 field-fault-returns-3 : (t : ℕ) → field-fault-lts.Need-returns-3 (field-claims t) (field-fault-at t) field-fault.Post
 field-fault-returns-3 t c =
-    let a = c .before .before .before .before .before .before .before .before .before .before .args in
+    let a = c .before .before .before .before .before .before .before .before .before .before .before .args in
     let k = prior-key (a .w) (a .tag) (a .s .now) (c .before .before .before .before .before .prior-of .result) (c .before .before .before .before .before .prior-of .ensures) in
-    field-count _ _ _ _ _ (c .before .before .before .before .before .before .before .before .tag-fault .ensures) (c .before .before .before .before .before .before .before .if1 .left) (row-there (c .before .before .before .before .before .before .before .before .before .before .pre .1 .0) _ _ (c .before .before .before .before .before .before .before .before .tag-fault .ensures) (c .before .before .before .before .before .before .before .if1 .left))
+    field-count _ _ _ _ _ (c .before .before .before .before .before .before .before .before .tag-fault .ensures) (c .before .before .before .before .before .before .before .if1 .left) (row-there (c .before .before .before .before .before .before .before .before .before .before .before .pre .1 .1) _ _ (c .before .before .before .before .before .before .before .before .tag-fault .ensures) (c .before .before .before .before .before .before .before .if1 .left))
     (c .before .before .before .before .before .before .row-at .ensures) k (c .before .before .before .before .value-fault .ensures) (c .before .before .before .if2 .left) (c .before .before .many-in .ensures) (c .before .count-of .ensures) (c .count-fault .ensures)
 
 value-fault-form-in-requires : (t : ℕ) → value-fault-lts.Need-form-in-requires (value-claims t) (value-fault-at t) value-fault.Post
@@ -217,54 +223,35 @@ value-fault-form-in-requires t c κs = tt
 value-fault-size-in-requires : (t : ℕ) → value-fault-lts.Need-size-in-requires (value-claims t) (value-fault-at t) value-fault.Post
 value-fault-size-in-requires t c κs = tt
 
-value-fault-sub-leaf-fault : (t : ℕ) → value-fault-lts.Need-sub-leaf-fault (value-claims t) (value-fault-at t) value-fault.Post
-value-fault-sub-leaf-fault t c = omega arith
-
-value-fault-part-leaf-fault-start : (t : ℕ) → value-fault-lts.Need-part-leaf-fault-start (value-claims t) (value-fault-at t) value-fault.Post
-value-fault-part-leaf-fault-start t c = omega arith
-
-value-fault-part-leaf-fault-end : (t : ℕ) → value-fault-lts.Need-part-leaf-fault-end (value-claims t) (value-fault-at t) value-fault.Post
-value-fault-part-leaf-fault-end t c = omega arith
-
 value-fault-leaf-fault-requires : (t : ℕ) → value-fault-lts.Need-leaf-fault-requires (value-claims t) (value-fault-at t) value-fault.Post
-value-fault-leaf-fault-requires t c κs = c .before .before .before .before .before .pre .1 .3
+value-fault-leaf-fault-requires t c κs =
+    let p = c .before .before .before .before .before .pre .1 in
+    (p .4, p .2, p .3)
 
 value-fault-returns : (t : ℕ) → value-fault-lts.Need-returns (value-claims t) (value-fault-at t) value-fault.Post
 value-fault-returns t c =
-    let a = c .before .before .before .before .before .before .args in
-    let p = c .before .before .before .before .before .before .pre .1 in
-    value-inner (a .s .now) (a .row) (a .from) (a .to) (p .1) (p .2) _ _ (c .before .before .before .before .form-in .ensures) (c .before .before .before .size-in .ensures) (c .before .before .if1 .taken) (c .leaf-fault .ensures)
-
-value-fault-sub-leaf-fault-2 : (t : ℕ) → value-fault-lts.Need-sub-leaf-fault-2 (value-claims t) (value-fault-at t) value-fault.Post
-value-fault-sub-leaf-fault-2 t c = omega arith
-
-value-fault-part-leaf-fault-start-2 : (t : ℕ) → value-fault-lts.Need-part-leaf-fault-start-2 (value-claims t) (value-fault-at t) value-fault.Post
-value-fault-part-leaf-fault-start-2 t c = omega arith
-
-value-fault-part-leaf-fault-end-2 : (t : ℕ) → value-fault-lts.Need-part-leaf-fault-end-2 (value-claims t) (value-fault-at t) value-fault.Post
-value-fault-part-leaf-fault-end-2 t c = omega arith
+    value-inner _ _ _ _ (c .before .before .before .form-in .ensures) (c .before .before .size-in .ensures) (c .before .if1 .taken) (c .leaf-fault .ensures)
 
 value-fault-leaf-fault-requires-2 : (t : ℕ) → value-fault-lts.Need-leaf-fault-requires-2 (value-claims t) (value-fault-at t) value-fault.Post
-value-fault-leaf-fault-requires-2 t c κs = c .before .before .before .before .before .before .pre .1 .4
+value-fault-leaf-fault-requires-2 t c κs =
+    let p = c .before .before .before .before .before .before .pre .1 in
+    (p .5, p .2, p .3)
 
 value-fault-returns-2 : (t : ℕ) → value-fault-lts.Need-returns-2 (value-claims t) (value-fault-at t) value-fault.Post
 value-fault-returns-2 t c =
-    let a = c .before .before .before .before .before .before .before .args in
-    let p = c .before .before .before .before .before .before .before .pre .1 in
-    value-leaf (a .s .now) (a .row) (a .from) (a .to) (p .1) (p .2) _ _ (c .before .before .before .before .before .form-in .ensures) (c .before .before .before .before .size-in .ensures) (c .before .before .before .if1 .left) (c .before .before .if2 .taken) (c .leaf-fault2 .ensures)
+    value-leaf _ _ _ _ (c .before .before .before .before .form-in .ensures) (c .before .before .before .size-in .ensures) (c .before .before .if1 .left) (c .before .if2 .taken) (c .leaf-fault2 .ensures)
 
 value-fault-faults-requires : (t : ℕ) → value-fault-lts.Need-faults-requires (value-claims t) (value-fault-at t) value-fault.Post
 value-fault-faults-requires t c κs =
-    let p = c .before .before .before .before .before .pre in (
+    let p = c .before .before .before .before .before .before .pre in (
       inner-falls (p .0) (c .before .if1 .left),
-      (run-is-base _ (p .1 .0) (c .before .before .before .form-in .ensures) (c .before .before .size-in .ensures) (c .if2 .left), (p .1 .1, p .1 .2), p .1 .4),
+      (p .1 .0, run-is-base _ (p .1 .1) (c .before .before .before .form-in .ensures) (c .before .before .size-in .ensures) (c .if2 .left), (p .1 .2, p .1 .3), p .1 .5),
     )
 
 value-fault-returns-3 : (t : ℕ) → value-fault-lts.Need-returns-3 (value-claims t) (value-fault-at t) value-fault.Post
 value-fault-returns-3 t c =
-    let a = c .before .before .before .before .before .before .args in
-    let p = c .before .before .before .before .before .before .pre .1 in
-    value-run (a .s .now) (a .row) (a .from) (a .to) (p .1) (p .2) _ _ (c .before .before .before .before .form-in .ensures) (c .before .before .before .size-in .ensures) (p .0) (c .before .before .if1 .left) (c .before .if2 .left) (c .faults .ensures)
+    let p = c .before .before .before .before .before .before .before .pre .1 in
+    value-run _ _ _ _ (c .before .before .before .before .form-in .ensures) (c .before .before .before .size-in .ensures) (p .1) (c .before .before .if1 .left) (c .before .if2 .left) (c .faults .ensures)
 
 pub +faults+field-fault+value-fault-spec : {M : Type 1} → statement M
 +faults+field-fault+value-fault-spec =
@@ -307,14 +294,8 @@ pub +faults+field-fault+value-fault-spec : {M : Type 1} → statement M
     value-fault.Post
     (value-fault-form-in-requires t)
     (value-fault-size-in-requires t)
-    (value-fault-sub-leaf-fault t)
-    (value-fault-part-leaf-fault-start t)
-    (value-fault-part-leaf-fault-end t)
     (value-fault-leaf-fault-requires t)
     (value-fault-returns t)
-    (value-fault-sub-leaf-fault-2 t)
-    (value-fault-part-leaf-fault-start-2 t)
-    (value-fault-part-leaf-fault-end-2 t)
     (value-fault-leaf-fault-requires-2 t)
     (value-fault-returns-2 t)
     (value-fault-faults-requires t)

@@ -5,13 +5,7 @@ use Rattle.shape_faults.proofs.ascends.Statement.{statement}
 use Rattle.shape_faults.proofs.ascends.Tie as tie
 
 returns : tie.Need-returns
-returns c = let a = c .before .before .before .before .args in above-none (a .s .now) (a .prior) (a .v .now) (c .if1 .taken)
-
-add-end : tie.Need-add-end
-add-end c = search needs
-
-sub-compare : tie.Need-sub-compare
-sub-compare c = search needs
+returns c = let a = c .before .before .before .args in above-none (a .s .now) (a .prior) (a .v .now) (c .if1 .taken)
 
 part-compare-start : tie.Need-part-compare-start
 part-compare-start c = search needs
@@ -33,32 +27,24 @@ enum-told-3 c = search needs
 
 returns-2 : tie.Need-returns-2
 returns-2 c =
-    let a = c .before .before .before .before .before .before .before .before .before .args in
-    above-some (a .s .now) (a .prior) (a .v .now) (c .before .before .before .before .before .before .before .before .before .pre)
-    (c .before .before .before .before .before .if1 .left)
-    (c .before .before .compare .ensures) (c .enum-told .given .1)
+    let b = c .before .before .before .before .before .before in
+    above-some (b .before .args .s .now) (b .before .args .prior) (b .before .args .v .now) (b .before .pre) (c .before .before .before .before .if1 .left) (c .before .before .compare .ensures) (c .enum-told .given .1)
 
 returns-3 : tie.Need-returns-3
 returns-3 c =
-    let a = c .before .before .before .before .before .before .before .before .before .args in
-    above-some (a .s .now) (a .prior) (a .v .now) (c .before .before .before .before .before .before .before .before .before .pre)
-    (c .before .before .before .before .before .if1 .left)
-    (c .before .before .compare .ensures) (c .enum-told2 .given .1)
+    let b = c .before .before .before .before .before .before in
+    above-some (b .before .args .s .now) (b .before .args .prior) (b .before .args .v .now) (b .before .pre) (c .before .before .before .before .if1 .left) (c .before .before .compare .ensures) (c .enum-told2 .given .1)
 
 returns-4 : tie.Need-returns-4
 returns-4 c =
-    let a = c .before .before .before .before .before .before .before .before .before .args in
-    above-some (a .s .now) (a .prior) (a .v .now) (c .before .before .before .before .before .before .before .before .before .pre)
-    (c .before .before .before .before .before .if1 .left)
-    (c .before .before .compare .ensures) (c .enum-told3 .given .1)
+    let b = c .before .before .before .before .before .before in
+    above-some (b .before .args .s .now) (b .before .args .prior) (b .before .args .v .now) (b .before .pre) (c .before .before .before .before .if1 .left) (c .before .before .compare .ensures) (c .enum-told3 .given .1)
 
 pub ascends-spec : {M : Type 1} → statement M
 ascends-spec =
     tie.close
     (tie.spec
     returns
-    add-end
-    sub-compare
     part-compare-start
     part-compare-end
     compare-requires

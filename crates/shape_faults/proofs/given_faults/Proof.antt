@@ -19,26 +19,26 @@ use Rattle.shape_faults.proofs.given_faults.Statement.{statement}
 use Rattle.shape_faults.proofs.given_faults.Tie as tie
 
 abbrev Inv-loop : tie.InvT-loop
-Inv-loop base tags lengths values w₀ i₀ start₀ w i start =
+Inv-loop rows base tags lengths values w₀ i₀ start₀ w i start =
     (i ≤ length tags) × (i ≤ length lengths) × (start ≤ length values) × PriorIn values (w .prior) × (w .count ≤ i)
     × (runFault (checkAt false none) (rowsFrom base) (beforeIn values w) (gatheredFrom tags lengths values i start)
     ≡ runFault (checkAt false none) (rowsFrom base) Shape.start (gathered tags lengths values))
 
 abbrev μ-loop : tie.MeasureT-loop
-μ-loop base tags lengths values w₀ i₀ start₀ w i start = length tags - i
+μ-loop rows base tags lengths values w₀ i₀ start₀ w i start = length tags - i
 
 begin-requires : tie.Need-begin-requires Inv-loop μ-loop
 begin-requires c κs = tt
 
 loop-holds : tie.Need-loop-holds Inv-loop μ-loop
 loop-holds c =
-    let a = c .before .before .before .before .args in
+    let a = c .before .before .before .before .before .args in
     let e = c .begin .ensures in
     (omega arith, omega arith, omega arith, begun-in (a .values .now) e, omega (arith, begun-count (a .values .now) e), on-begun _ _ (a .values .now) e _)
 
 returns : tie.Need-returns Inv-loop μ-loop
 returns c =
-    let a = c .before .before .before .before .before .before .before .args in
+    let a = c .before .before .before .before .before .before .before .before .args in
     let l = c .before .before .loop in
     on-torn _ _ _ (no-length (a .tags .now) (a .lengths .now) (a .values .now) (l .i) (l .start) (c .before .loop-test .taken) (c .if1 .taken)) ∙ l .inv .5
 
@@ -49,14 +49,14 @@ shared-slice-read-len : tie.Need-shared-slice-read-len Inv-loop μ-loop
 shared-slice-read-len c = omega arith
 
 cast-len : tie.Need-cast-len Inv-loop μ-loop
-cast-len c = omega (arith, c .shared-slice-known4 .given (c .before .before .before .loop .i))
+cast-len c = omega (arith, c .shared-slice-known5 .given (c .before .before .before .loop .i))
 
 sub-if2 : tie.Need-sub-if2 Inv-loop μ-loop
 sub-if2 c = omega arith
 
 returns-2 : tie.Need-returns-2 Inv-loop μ-loop
 returns-2 c =
-    let a = c .before .before .before .before .before .before .before .before .before .args in
+    let a = c .before .before .before .before .before .before .before .before .before .before .args in
     let l = c .before .before .before .before .loop in
     on-torn _ _ _ (value-cut (a .tags .now) (a .lengths .now) (a .values .now) (l .i) (l .start) (c .before .before .before .loop-test .taken) (c .before .before .if1 .left) _ refl (c .if2 .taken)) ∙ l .inv .5
 
@@ -70,30 +70,30 @@ no-key-requires : tie.Need-no-key-requires Inv-loop μ-loop
 no-key-requires c κs = tt
 
 field-fault-requires : tie.Need-field-fault-requires Inv-loop μ-loop
-field-fault-requires c κs = (c .before .before .before .before .before .before .before .before .before .before .before .before .pre, omega arith, c .before .before .before .before .before .before .before .loop .inv .3, rw (c .no-key .ensures) (omega arith))
+field-fault-requires c κs = (c .before .before .before .before .before .before .before .before .before .before .before .before .before .pre .0, c .before .before .before .before .before .before .before .before .before .before .before .before .before .pre .1, omega arith, c .before .before .before .before .before .before .before .loop .inv .3, rw (c .no-key .ensures) (omega arith))
 
 returns-3 : tie.Need-returns-3 Inv-loop μ-loop
 returns-3 c =
-    let a = c .before .before .before .before .before .before .before .before .before .before .before .before .before .before .args in
+    let a = c .before .before .before .before .before .before .before .before .before .before .before .before .before .before .before .args in
     let l = c .before .before .before .before .before .before .before .before .before .loop in
     on-fault _ _ _ (next-field (a .tags .now) (a .lengths .now) (a .values .now) (l .i) (l .start) (c .before .before .before .before .before .before .before .before .loop-test .taken) (c .before .before .before .before .before .before .before .if1 .left) _ refl
     _ (c .before .before .before .size .ensures .0) (l .inv .2) (c .before .before .before .before .before .if2 .left)) (c .before .field-fault .ensures) (c .if3 .taken) ∙ l .inv .5
 
 walk-past-requires : tie.Need-walk-past-requires Inv-loop μ-loop
-walk-past-requires c κs = (field-fits _ (c .before .before .before .before .before .before .before .before .before .before .before .before .before .before .pre) _ _ _ (c .before .field-fault .ensures) (c .if3 .left), omega arith, omega arith)
+walk-past-requires c κs = (c .before .before .before .before .before .before .before .before .before .before .before .before .before .before .before .pre .0, field-fits _ (c .before .before .before .before .before .before .before .before .before .before .before .before .before .before .before .pre .1) _ _ _ (c .before .field-fault .ensures) (c .if3 .left), omega arith, omega arith)
 
 add-start : tie.Need-add-start Inv-loop μ-loop
-add-start c = omega (arith, c .before .before .before .before .before .before .before .before .before .before .before .before .before .before .before .good)
+add-start c = omega (arith, c .before .before .before .before .before .before .before .before .before .before .before .before .before .before .before .before .good)
 
 add-i : tie.Need-add-i Inv-loop μ-loop
-add-i c = omega (arith, c .before .before .before .before .before .before .before .before .before .before .before .before .before .before .before .good)
+add-i c = omega (arith, c .before .before .before .before .before .before .before .before .before .before .before .before .before .before .before .before .good)
 
 loop-less : tie.Need-loop-less Inv-loop μ-loop
 loop-less c = omega arith
 
 loop-again : tie.Need-loop-again Inv-loop μ-loop
 loop-again c =
-    let a = c .before .before .before .before .before .before .before .before .before .before .before .before .before .before .before .args in
+    let a = c .before .before .before .before .before .before .before .before .before .before .before .before .before .before .before .before .args in
     let l = c .before .before .before .before .before .before .before .before .before .before .loop in
     let q = passed-count _ _ _ _ (c .walk-past .ensures .0) in (
       omega arith,
@@ -101,29 +101,29 @@ loop-again c =
       omega arith,
       c .walk-past .ensures .1,
       omega arith,
-      on-field _ (c .before .before .before .before .before .before .before .before .before .before .before .before .before .before .before .pre) _ _ _ (c .before .before .field-fault .ensures) (c .before .if3 .left)
+      on-field _ (c .before .before .before .before .before .before .before .before .before .before .before .before .before .before .before .before .pre .1) _ _ _ (c .before .before .field-fault .ensures) (c .before .if3 .left)
           (next-field (a .tags .now) (a .lengths .now) (a .values .now) (l .i) (l .start) (c .before .before .before .before .before .before .before .before .before .loop-test .taken) (c .before .before .before .before .before .before .before .before .if1 .left) _ refl
           _ (c .before .before .before .before .size .ensures .0) (l .inv .2) (c .before .before .before .before .before .before .if2 .left)) (c .walk-past .ensures .0) ∙ l .inv .5,
     )
 
 returns-4 : tie.Need-returns-4 Inv-loop μ-loop
 returns-4 c =
-    let a = c .before .before .before .before .before .before .before .args in
+    let a = c .before .before .before .before .before .before .before .before .args in
     let l = c .before .before .loop in
     on-torn _ _ _ (lengths-left (a .tags .now) (a .lengths .now) (a .values .now) (l .i) (l .start) (c .before .loop-test .left) (c .if4 .taken)) ∙ l .inv .5
 
 returns-5 : tie.Need-returns-5 Inv-loop μ-loop
 returns-5 c =
-    let a = c .before .before .before .before .before .before .before .before .args in
+    let a = c .before .before .before .before .before .before .before .before .before .args in
     let l = c .before .before .before .loop in
     on-torn _ _ _ (values-left (a .tags .now) (a .lengths .now) (a .values .now) (l .i) (l .start) (c .before .before .loop-test .left) (c .before .if4 .left) (c .if5 .taken)) ∙ l .inv .5
 
 end-fault-requires : tie.Need-end-fault-requires Inv-loop μ-loop
-end-fault-requires c κs = c .before .before .before .before .before .before .before .before .pre
+end-fault-requires c κs = c .before .before .before .before .before .before .before .before .before .pre
 
 returns-6 : tie.Need-returns-6 Inv-loop μ-loop
 returns-6 c =
-    let a = c .before .before .before .before .before .before .before .before .before .args in
+    let a = c .before .before .before .before .before .before .before .before .before .before .args in
     let l = c .before .before .before .before .loop in
     c .end-fault .ensures
     ∙ on-done _ _ _ (nothing-left (a .tags .now) (a .lengths .now) (a .values .now) (l .i) (l .start) (c .before .before .before .loop-test .left) (c .before .before .if4 .left) (c .before .if5 .left))

@@ -14,6 +14,12 @@ field-requires c κs = search needs
 enum-known-at : tie.Need-enum-known-at
 enum-known-at c = search needs
 
+add-t10 : tie.Need-add-t10
+add-t10 c =
+    let f = c .before .before .before .field .ensures in
+    let w = part-within (c .before .at .given .1) (f .1) in
+    omega arith
+
 enum-told : tie.Need-enum-told
 enum-told c = search needs
 
@@ -33,4 +39,4 @@ returns-2 c = key-missing _ (c .before .before .before .field .ensures .0) (c .b
 pub key-of-spec : {M : Type 1} → statement M
 key-of-spec =
     tie.close
-    (tie.spec add-t7 field-requires enum-known-at enum-told no-key-requires returns returns-2)
+    (tie.spec add-t7 field-requires enum-known-at add-t10 enum-told no-key-requires returns returns-2)

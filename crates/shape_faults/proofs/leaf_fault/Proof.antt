@@ -1,16 +1,48 @@
 -- `shape_faults::leaf_fault` meets its contract: each code is a form, and each form has its test.
 use borrow.Author.Tests.{eq-eqb, ne-eqb}
 use borrow.Author.Needs.{needs}
+use lib.Seq.{length-slice}
 use Rattle.model.specs.Shape.{leafFault}
 use Rattle.shapes.specs.Table.{formOf}
+use Rattle.shape_faults.proofs.Parts.{part-slice}
 use Rattle.shape_faults.proofs.leaf_fault.Statement.{statement}
 use Rattle.shape_faults.proofs.leaf_fault.Tie as tie
+
+sub-len : tie.Need-sub-len
+sub-len c = search needs
+
+sub-below-fault : tie.Need-sub-below-fault
+sub-below-fault c = search needs
+
+part-below-fault-start : tie.Need-part-below-fault-start
+part-below-fault-start c = search needs
+
+part-below-fault-end : tie.Need-part-below-fault-end
+part-below-fault-end c = search needs
 
 below-fault-requires : tie.Need-below-fault-requires
 below-fault-requires c κs = search needs
 
+sub-text-fault : tie.Need-sub-text-fault
+sub-text-fault c = search needs
+
+part-text-fault-start : tie.Need-part-text-fault-start
+part-text-fault-start c = search needs
+
+part-text-fault-end : tie.Need-part-text-fault-end
+part-text-fault-end c = search needs
+
 text-fault-requires : tie.Need-text-fault-requires
 text-fault-requires c κs = search needs
+
+sub-key-fault : tie.Need-sub-key-fault
+sub-key-fault c = search needs
+
+part-key-fault-start : tie.Need-part-key-fault-start
+part-key-fault-start c = search needs
+
+part-key-fault-end : tie.Need-part-key-fault-end
+part-key-fault-end c = search needs
 
 key-fault-requires : tie.Need-key-fault-requires
 key-fault-requires c κs = search needs
@@ -26,35 +58,51 @@ list-fault-requires-2 c κs = search needs
 
 returns : tie.Need-returns
 unfolding leafFault formOf
-returns c = rw (c .before .match .keys1, eq-eqb _ _ (c .if1 .taken))
+returns c =
+    let b = c .before .before .before in
+    rw (c .before .match .keys1, length-slice (b .args .from) (b .args .to) (b .args .s .now) (b .pre .2), eq-eqb _ _ (c .if1 .taken))
 
 returns-2 : tie.Need-returns-2
 unfolding leafFault formOf
-returns-2 c = rw (c .before .match .keys1, ne-eqb _ _ (c .if1 .left))
+returns-2 c =
+    let b = c .before .before .before in
+    rw (c .before .match .keys1, length-slice (b .args .from) (b .args .to) (b .args .s .now) (b .pre .2), ne-eqb _ _ (c .if1 .left))
 
 returns-3 : tie.Need-returns-3
 unfolding leafFault formOf
-returns-3 c = rw (c .before .match .keys2) (c .below-fault .ensures)
+returns-3 c =
+    let b = c .before .before .before .before in
+    rw (c .before .before .match .keys2, ← part-slice (b .args .s .now) (b .args .from) (b .args .to) (b .pre .1) (b .pre .2)) (c .below-fault .ensures)
 
 returns-4 : tie.Need-returns-4
 unfolding leafFault formOf
-returns-4 c = rw (c .before .match .keys3) (c .text-fault .ensures)
+returns-4 c =
+    let b = c .before .before .before .before in
+    rw (c .before .before .match .keys3, ← part-slice (b .args .s .now) (b .args .from) (b .args .to) (b .pre .1) (b .pre .2)) (c .text-fault .ensures)
 
 returns-5 : tie.Need-returns-5
 unfolding leafFault formOf
-returns-5 c = rw (c .before .match .keys4) (c .key-fault .ensures)
+returns-5 c =
+    let b = c .before .before .before .before in
+    rw (c .before .before .match .keys4, ← part-slice (b .args .s .now) (b .args .from) (b .args .to) (b .pre .1) (b .pre .2)) (c .key-fault .ensures)
 
 returns-6 : tie.Need-returns-6
 unfolding leafFault formOf
-returns-6 c = rw (c .before .match .keys5) (c .limit-fault .ensures)
+returns-6 c =
+    let b = c .before .before .before in
+    rw (c .before .match .keys5, length-slice (b .args .from) (b .args .to) (b .args .s .now) (b .pre .2)) (c .limit-fault .ensures)
 
 returns-7 : tie.Need-returns-7
 unfolding leafFault formOf
-returns-7 c = rw (c .before .match .keys6) (c .list-fault .ensures)
+returns-7 c =
+    let b = c .before .before .before in
+    rw (c .before .match .keys6, length-slice (b .args .from) (b .args .to) (b .args .s .now) (b .pre .2)) (c .list-fault .ensures)
 
 returns-8 : tie.Need-returns-8
 unfolding leafFault formOf
-returns-8 c = rw (c .before .match .keys7) (c .list-fault2 .ensures)
+returns-8 c =
+    let b = c .before .before .before in
+    rw (c .before .match .keys7, length-slice (b .args .from) (b .args .to) (b .args .s .now) (b .pre .2)) (c .list-fault2 .ensures)
 
 returns-9 : tie.Need-returns-9
 unfolding leafFault formOf
@@ -74,8 +122,18 @@ pub leaf-fault-spec : {M : Type 1} → statement M
 leaf-fault-spec =
     tie.close
     (tie.spec
+    sub-len
+    sub-below-fault
+    part-below-fault-start
+    part-below-fault-end
     below-fault-requires
+    sub-text-fault
+    part-text-fault-start
+    part-text-fault-end
     text-fault-requires
+    sub-key-fault
+    part-key-fault-start
+    part-key-fault-end
     key-fault-requires
     limit-fault-requires
     list-fault-requires

@@ -8,34 +8,34 @@ use Rattle.shape_faults.proofs.tag_fault.Statement.{statement}
 use Rattle.shape_faults.proofs.tag_fault.Tie as tie
 
 returns : tie.Need-returns
-returns c = tag-zero (c .before .pre) _ _ (c .if1 .taken)
+returns c = tag-zero (c .before .before .pre .1) _ _ (c .if1 .taken)
 
 row-at-requires : tie.Need-row-at-requires
-row-at-requires c κs = omega (arith, base-fits (c .before .pre .shape) (c .before .pre .at))
+row-at-requires c κs = (c .before .before .pre .0, omega (arith, base-fits (c .before .before .pre .1 .shape) (c .before .before .pre .1 .at)))
 
 size-in-requires : tie.Need-size-in-requires
 size-in-requires c κs = search needs
 
 returns-2 : tie.Need-returns-2
-returns-2 c = tag-past (c .before .before .before .before .pre) _ _ _ _ (c .before .before .row-at .ensures) (c .before .size-in .ensures) (c .if2 .taken)
+returns-2 c = tag-past (c .before .before .before .before .before .pre .1) _ _ _ _ (c .before .before .row-at .ensures) (c .before .size-in .ensures) (c .if2 .taken)
 
 add-row-at : tie.Need-add-row-at
-add-row-at c = omega (arith, tag-fits (c .before .before .before .before .pre) 0 _ _ _ (c .before .before .row-at .ensures) (c .before .size-in .ensures) (c .before .before .before .if1 .left) (c .if2 .left))
+add-row-at c = omega (arith, tag-fits (c .before .before .before .before .before .pre .1) 0 _ _ _ (c .before .before .row-at .ensures) (c .before .size-in .ensures) (c .before .before .before .if1 .left) (c .if2 .left))
 
 row-at-requires-2 : tie.Need-row-at-requires-2
-row-at-requires-2 c κs = tag-fits (c .before .before .before .before .pre) 0 _ _ _ (c .before .before .row-at .ensures) (c .before .size-in .ensures) (c .before .before .before .if1 .left) (c .if2 .left)
+row-at-requires-2 c κs = (c .before .before .before .before .before .pre .0, tag-fits (c .before .before .before .before .before .pre .1) 0 _ _ _ (c .before .before .row-at .ensures) (c .before .size-in .ensures) (c .before .before .before .if1 .left) (c .if2 .left))
 
 prior-in-requires : tie.Need-prior-in-requires
 prior-in-requires c κs = search needs
 
 returns-3 : tie.Need-returns-3
 returns-3 c =
-    tag-misses (c .before .before .before .before .before .before .before .before .pre) _ _ _ _ (c .before .before .before .before .before .before .row-at .ensures) (c .before .before .before .before .before .size-in .ensures) (c .before .before .before .before .before .before .before .if1 .left) (c .before .before .before .before .if2 .left)
+    tag-misses (c .before .before .before .before .before .before .before .before .before .pre .1) _ _ _ _ (c .before .before .before .before .before .before .row-at .ensures) (c .before .before .before .before .before .size-in .ensures) (c .before .before .before .before .before .before .before .if1 .left) (c .before .before .before .before .if2 .left)
     _ (c .before .before .before .row-at2 .ensures) _ (c .before .before .if3 .taken) (c .before .prior-in .ensures) (c .if4 .taken)
 
 returns-4 : tie.Need-returns-4
 returns-4 c =
-    tag-next (c .before .before .before .before .before .before .before .before .pre) _ _ _ _ (c .before .before .before .before .before .before .row-at .ensures) (c .before .before .before .before .before .size-in .ensures) (c .before .before .before .before .before .before .before .if1 .left) (c .before .before .before .before .if2 .left)
+    tag-next (c .before .before .before .before .before .before .before .before .before .pre .1) _ _ _ _ (c .before .before .before .before .before .before .row-at .ensures) (c .before .before .before .before .before .size-in .ensures) (c .before .before .before .before .before .before .before .if1 .left) (c .before .before .before .before .if2 .left)
     _ (c .before .before .before .row-at2 .ensures) _ (c .before .before .if3 .taken) (c .before .prior-in .ensures) (c .if4 .left)
 
 many-in-requires : tie.Need-many-in-requires
@@ -43,17 +43,17 @@ many-in-requires c κs = search needs
 
 returns-5 : tie.Need-returns-5
 returns-5 c =
-    tag-again (c .before .before .before .before .before .before .before .before .before .pre) _ _ _ _ (c .before .before .before .before .before .before .before .row-at .ensures) (c .before .before .before .before .before .before .size-in .ensures) (c .before .before .before .before .before .before .before .before .if1 .left) (c .before .before .before .before .before .if2 .left)
+    tag-again (c .before .before .before .before .before .before .before .before .before .before .pre .1) _ _ _ _ (c .before .before .before .before .before .before .before .row-at .ensures) (c .before .before .before .before .before .before .size-in .ensures) (c .before .before .before .before .before .before .before .before .if1 .left) (c .before .before .before .before .before .if2 .left)
     _ (c .before .before .before .before .row-at2 .ensures) _ (c .before .before .before .if3 .left) (c .before .before .if5 .taken) (c .before .many-in .ensures) (c .if6 .taken)
 
 returns-6 : tie.Need-returns-6
 returns-6 c =
-    tag-twice (c .before .before .before .before .before .before .before .before .before .pre) _ _ _ _ (c .before .before .before .before .before .before .before .row-at .ensures) (c .before .before .before .before .before .before .size-in .ensures) (c .before .before .before .before .before .before .before .before .if1 .left) (c .before .before .before .before .before .if2 .left)
+    tag-twice (c .before .before .before .before .before .before .before .before .before .before .pre .1) _ _ _ _ (c .before .before .before .before .before .before .before .row-at .ensures) (c .before .before .before .before .before .before .size-in .ensures) (c .before .before .before .before .before .before .before .before .if1 .left) (c .before .before .before .before .before .if2 .left)
     _ (c .before .before .before .before .row-at2 .ensures) _ (c .before .before .before .if3 .left) (c .before .before .if5 .taken) (c .before .many-in .ensures) (c .if6 .left)
 
 returns-7 : tie.Need-returns-7
 returns-7 c =
-    tag-back (c .before .before .before .before .before .before .before .pre) _ _ _ _ (c .before .before .before .before .before .row-at .ensures) (c .before .before .before .before .size-in .ensures) (c .before .before .before .before .before .before .if1 .left) (c .before .before .before .if2 .left)
+    tag-back (c .before .before .before .before .before .before .before .before .pre .1) _ _ _ _ (c .before .before .before .before .before .row-at .ensures) (c .before .before .before .before .size-in .ensures) (c .before .before .before .before .before .before .if1 .left) (c .before .before .before .if2 .left)
     _ (c .before .before .row-at2 .ensures) (c .before .if3 .left) (c .if5 .left)
 
 pub tag-fault-spec : {M : Type 1} → statement M

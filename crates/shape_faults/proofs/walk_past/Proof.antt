@@ -10,7 +10,7 @@ count-of-requires : tie.Need-count-of-requires
 count-of-requires c κs = search needs
 
 add-count : tie.Need-add-count
-add-count c = let a = c .before .before .args in omega (arith, c .count-of .ensures, count-most (beforeIn (a .s .now) (a .w)) (a .tag))
+add-count c = let a = c .before .before .before .args in omega (arith, c .count-of .ensures, count-most (beforeIn (a .s .now) (a .w)) (a .tag))
 
 add-row-at : tie.Need-add-row-at
 add-row-at c = search needs
@@ -26,7 +26,7 @@ key-of-requires c κs = search needs
 
 returns : tie.Need-returns
 returns c =
-    let a = c .before .before .before .before .before .before .args in (
+    let a = c .before .before .before .before .before .before .before .args in (
       past-many (a .s .now) (a .base) (a .w) (a .tag) _ _ _ _ (c .before .before .before .before .count-of .ensures)
           (c .before .before .before .row-at .ensures) (c .before .before .many-in .ensures) (c .key-of .result) (c .before .if1 .taken) (c .key-of .ensures .0),
       c .key-of .ensures .1,
@@ -37,7 +37,7 @@ no-key-requires c κs = search needs
 
 returns-2 : tie.Need-returns-2
 returns-2 c =
-    let a = c .before .before .before .before .before .before .args in (
+    let a = c .before .before .before .before .before .before .before .args in (
       past-once (a .s .now) (a .base) (a .w) (a .tag) _ _ _ _ (c .before .before .before .before .count-of .ensures)
           (c .before .before .before .row-at .ensures) (c .before .before .many-in .ensures) (c .no-key .result) (c .before .if1 .left) (c .no-key .ensures),
       rw (c .no-key .ensures) (omega arith),

@@ -15,8 +15,11 @@ Inv-loop s q₀ at₀ q at = (at ≤ length s) × (q < 9) × (completed (wants q
 abbrev μ-loop : tie.MeasureT-loop
 μ-loop s q₀ at₀ q at = length s - at
 
+ascii-length-requires : tie.Need-ascii-length-requires Inv-loop μ-loop
+ascii-length-requires c κs = tt
+
 loop-holds : tie.Need-loop-holds Inv-loop μ-loop
-loop-holds c = (omega arith, lit< tt, text-start (c .before .args .s .now))
+loop-holds c = (c .ascii-length .ensures .0, lit< tt, text-start _ ∙ c .ascii-length .ensures .1)
 
 shared-slice-read-next-state : tie.Need-shared-slice-read-next-state Inv-loop μ-loop
 shared-slice-read-next-state c = omega arith
@@ -33,7 +36,7 @@ loop-less c = omega arith
 loop-again : tie.Need-loop-again Inv-loop μ-loop
 loop-again c =
     let l = c .before .before .before .loop in
-    let s = c .before .before .before .before .before .args .s .now in
+    let s = c .before .before .before .before .before .before .args .s .now in
     let b = c .before .shared-slice-known2 .given (l .at) in
     let t = text-step s (l .at) (l .q) _ (l .inv .1) (omega arith) (omega arith) (c .next-state .ensures) in
     (omega arith, t .0, t .1 ∙ l .inv .2)
@@ -49,6 +52,7 @@ is-text-spec =
     (tie.spec
     Inv-loop
     μ-loop
+    ascii-length-requires
     loop-holds
     shared-slice-read-next-state
     next-state-requires
