@@ -1,0 +1,79 @@
+-- Which entries stand under a topic: those of six groups, by the name that their keys begin with.
+use mathlib.Core.Path.{_≡_, refl, ap, _∙_}
+use mathlib.Core.Bool.{Bool, true, not}
+use Prim.Native.Nat.{ℕ, _≤_, _<_}
+use native.Mathlib.Omega.{arith}
+use borrow.Author.Tests.{le-leb, lt-leb}
+use Rattle.model.specs.Number.{Bytes}
+use Rattle.model.specs.Order.{sameBytes}
+use Rattle.model.specs.Run.{Run, value}
+use Rattle.model.specs.Key.{rank, subject, keyOf, keyRank, keyName, topicOf}
+use Rattle.model.specs.Move.{apartFrom}
+use Rattle.model.specs.declared.Kind.{Kind}
+use Rattle.model.specs.declared.Kind.the-variants.{Topic, Partition, BrokerRegistration, DeleteTopic, TopicConfig, BrokerConfig, ClientQuota, ProducerIds, UnregisterBroker, KRaftVersion, FeatureLevel, ClientMetricsConfig, FeaturesEpoch, PartitionDirAssignment, PartitionOffsetAdvance, GroupConfig, ControllerRegistration, TopicFreeze, BreakGlassProposal, DeleteBreakGlassProposal, PartitionElr, PartitionRecovery, PartitionUpdate, BrokerRegistrationChange, UnregisterController}
+use Rattle.keys.specs.Keys.{kindIn, runIn, rankOf, keyIn, Keyed}
+
+-- 1. By kind
+
+name-of : (k : Kind) (r : Run) → 4 ≤ rank k → rank k ≤ 9 → keyName (keyOf k r) ≡ value 1 r
+unfolding rank keyName keyOf subject
+name-of Topic r low high = refl
+name-of Partition r low high = refl
+name-of PartitionOffsetAdvance r low high = refl
+name-of PartitionElr r low high = refl
+name-of PartitionRecovery r low high = refl
+name-of TopicConfig r low high = refl
+name-of BrokerRegistration r low high = absurd (omega arith)
+name-of ControllerRegistration r low high = absurd (omega arith)
+name-of BrokerConfig r low high = absurd (omega arith)
+name-of ClientQuota r low high = absurd (omega arith)
+name-of ProducerIds r low high = absurd (omega arith)
+name-of ClientMetricsConfig r low high = absurd (omega arith)
+name-of GroupConfig r low high = absurd (omega arith)
+name-of TopicFreeze r low high = absurd (omega arith)
+name-of BreakGlassProposal r low high = absurd (omega arith)
+name-of FeatureLevel r low high = absurd (omega arith)
+name-of FeaturesEpoch r low high = absurd (omega arith)
+name-of KRaftVersion r low high = absurd (omega arith)
+name-of DeleteTopic r low high = absurd (omega arith)
+name-of UnregisterBroker r low high = absurd (omega arith)
+name-of PartitionDirAssignment r low high = absurd (omega arith)
+name-of DeleteBreakGlassProposal r low high = absurd (omega arith)
+name-of PartitionUpdate r low high = absurd (omega arith)
+name-of BrokerRegistrationChange r low high = absurd (omega arith)
+name-of UnregisterController r low high = absurd (omega arith)
+
+module _ (name : Bytes) (k : Kind) (r : Run) where
+  low-apart : rank k < 4 → true ≡ apartFrom name (keyOf k r)
+  unfolding apartFrom topicOf keyRank keyOf rank
+  low-apart h = rw (lt-leb 4 (rank k) h)
+
+  high-apart : 9 < rank k → true ≡ apartFrom name (keyOf k r)
+  unfolding apartFrom topicOf keyRank keyOf rank
+  high-apart h = rw (le-leb 4 (rank k) (omega arith), lt-leb (rank k) 9 h)
+
+  named-apart : 4 ≤ rank k → rank k ≤ 9 → not (sameBytes (value 1 r) name) ≡ apartFrom name (keyOf k r)
+  unfolding apartFrom topicOf keyRank keyOf rank
+  named-apart low high = rw (le-leb 4 (rank k) low, le-leb (rank k) 9 high, name-of k r low high)
+
+-- 2. By an entry's bytes
+
+module _ (name s : Bytes) (keyed : Keyed s) (n : ℕ) (e : n ≡ rankOf (kindIn s)) where
+  key-of : keyIn s ≡ keyOf (keyed .kind) (runIn s)
+  unfolding keyIn
+  key-of = rw (keyed .known)
+
+  rank-is : n ≡ rank (keyed .kind)
+  unfolding rankOf
+  rank-is = e ∙ rw (keyed .known)
+
+  pub apart-low : n < 4 → true ≡ apartFrom name (keyIn s)
+  apart-low h = rw key-of (low-apart name (keyed .kind) (runIn s) (omega (arith, rank-is)))
+
+  pub apart-high : 9 < n → true ≡ apartFrom name (keyIn s)
+  apart-high h = rw key-of (high-apart name (keyed .kind) (runIn s) (omega (arith, rank-is)))
+
+  pub apart-named : 4 ≤ n → n ≤ 9 → (v : Bytes) (b : Bool) → v ≡ value 1 (runIn s) → b ≡ sameBytes v name → not b ≡ apartFrom name (keyIn s)
+  apart-named low high v b is same =
+      ap not (same ∙ ap (λ x. sameBytes x name) is)
+      ∙ rw key-of (named-apart name (keyed .kind) (runIn s) (omega (arith, rank-is)) (omega (arith, rank-is)))

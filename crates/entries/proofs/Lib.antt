@@ -1,0 +1,10 @@
+pub mod Splices
+pub mod Steps
+pub mod Records
+pub mod Seeks
+pub mod Turns
+pub mod Changes
+pub mod Parts
+pub mod Lookups
+pub mod Keeps
+pub mod Apart
