@@ -3,7 +3,7 @@ use mathlib.Core.Path.{_≡_, sym, _∙_, ap}
 use mathlib.Core.List.{List, [], _∷_, _++_, map}
 use mathlib.Core.Bool.{true}
 use mathlib.Core.Logic.{_↔_}
-use Prim.Native.Nat.{ℕ, _-_, _≤_, _<_}
+use Prim.Native.Nat.{ℕ, _+_, _-_, _*_, _≤_, _<_}
 use native.Mathlib.Omega.{arith}
 use lib.ListN.{length, take, drop, take-append-drop}
 use lib.Seq.{slice, length-slice, take-take}
@@ -12,8 +12,8 @@ use Rattle.model.specs.Number.{Bytes, AreBytes, number, span}
 use Rattle.model.specs.Run.{bytesOf}
 use Rattle.model.specs.Shape.{stored, fault}
 use Rattle.model.specs.Record.{Rec, recordBytes}
-use Rattle.model.specs.Items.{records}
-use Rattle.model.specs.Contents.{kept, Contents}
+use Rattle.model.specs.Items.{records, isWhole}
+use Rattle.model.specs.Contents.{kept, Contents, fixedRoom, weight, sound}
 use Rattle.model.specs.Image.{headSize, zeros, header, entryBytes, used, imageOf, usedIn, fixedIn, itemsIn}
 use Rattle.model.specs.Image.{entryOf, flagReads, realOf, emptiesOf, contentsOf, isImage}
 use Rattle.laws.specs.Lists.{All, all-imp, all-both, all-append-left, all-append-right, all-map, map-same, map-map}
@@ -23,7 +23,9 @@ use Rattle.laws_records.specs.Faults.{fault-whole, fault-short}
 use Rattle.laws_records.specs.Items.{AllPass, Spells, spells-items}
 use Rattle.laws_image.specs.Fits.{Readable, Proper, Fits}
 use Rattle.laws_image.specs.Entries.{kept-entry, entry-proper, real-empties}
-use Rattle.laws_image.specs.Tests.{capacity-least, ImageHolds, image-holds}
+use Rattle.laws_image.specs.Tests.{capacity-least, HeaderHolds, ImageHolds, image-holds}
+use Rattle.laws_image.specs.Orderly.{orderly}
+use Rattle.laws_image.specs.Weight.{producerSize, producers, weight-used}
 use Rattle.laws_image.specs.Image.{standing, entry-bytes, image-contents, image-is}
 
 -- 1. Records that were read from bytes
@@ -47,18 +49,19 @@ readable-records (r ∷ rs) ok h =
 abbrev Read : Rec → Type 0
 Read r = Readable r × (flagReads r ≡ true)
 
-module _ (b : Bytes) (areBytes : AreBytes b) (d : ImageHolds b) where
+module _ (b : Bytes) (areBytes : AreBytes b) (head : HeaderHolds b) (whole : isWhole (itemsIn b) ≡ true)
+    (flags : All (λ r. flagReads r ≡ true) (records (itemsIn b))) where
   entries-part : AreBytes (slice headSize (usedIn b) b)
   entries-part = slice-are-bytes headSize (usedIn b) b areBytes
 
   spells : Spells stored (records (itemsIn b)) (slice headSize (usedIn b) b)
-  spells = spells-items stored (slice headSize (usedIn b) b) entries-part (d .whole)
+  spells = spells-items stored (slice headSize (usedIn b) b) entries-part whole
 
   reads : All Read (realOf (records (itemsIn b)) ++ emptiesOf (records (itemsIn b)))
   reads =
       let rs = records (itemsIn b) in
       let readable = readable-records rs (spells .pass) (rw (spells .spelt) entries-part) in
-      rw (real-empties rs) (all-both Readable (λ r. flagReads r ≡ true) rs readable (d .flags))
+      rw (real-empties rs) (all-both Readable (λ r. flagReads r ≡ true) rs readable flags)
 
   real-reads : All Read (realOf (records (itemsIn b)))
   real-reads = all-append-left Read (realOf (records (itemsIn b))) (emptiesOf (records (itemsIn b))) reads
@@ -82,14 +85,14 @@ module _ (b : Bytes) (areBytes : AreBytes b) (d : ImageHolds b) where
 
   pub used-back : used (contentsOf b) ≡ usedIn b
   used-back =
-      let h = ap length entries-back ∙ length-slice headSize (usedIn b) b (d .head .most) in
-      let least = d .head .least in
+      let h = ap length entries-back ∙ length-slice headSize (usedIn b) b (head .most) in
+      let least = head .least in
       omega arith
 
   -- the three parts of a buffer
   parts : take headSize b ++ slice headSize (usedIn b) b ++ drop (usedIn b) b ≡ b
   parts =
-      ap (λ (s : Bytes). s ++ slice headSize (usedIn b) b ++ drop (usedIn b) b) (sym (take-take headSize (usedIn b) b (d .head .least)))
+      ap (λ (s : Bytes). s ++ slice headSize (usedIn b) b ++ drop (usedIn b) b) (sym (take-take headSize (usedIn b) b (head .least)))
       ∙ ap (λ (s : Bytes). s ++ drop (usedIn b) b) (take-append-drop headSize (take (usedIn b) b))
       ∙ take-append-drop (usedIn b) b
 
@@ -98,10 +101,19 @@ module _ (b : Bytes) (areBytes : AreBytes b) (d : ImageHolds b) where
   back =
       ap (λ (n : ℕ). header n (fixedIn b) ++ entryBytes (contentsOf b) ++ zeros (length b - n)) used-back
       ∙ ap (λ (s : Bytes). header (usedIn b) (fixedIn b) ++ s ++ zeros (length b - usedIn b)) entries-back
-      ∙ ap (λ (s : Bytes). s ++ slice headSize (usedIn b) b ++ zeros (length b - usedIn b)) (sym (d .head .front))
-      ∙ ap (λ (s : Bytes). take headSize b ++ slice headSize (usedIn b) b ++ s) (sym (d .head .clear))
+      ∙ ap (λ (s : Bytes). s ++ slice headSize (usedIn b) b ++ zeros (length b - usedIn b)) (sym (head .front))
+      ∙ ap (λ (s : Bytes). take headSize b ++ slice headSize (usedIn b) b ++ s) (sym (head .clear))
       ∙ parts
 
+  proper-entries : All Proper (contentsOf b .real)
+  unfolding contentsOf
+  proper-entries = all-map Read Proper entryOf (λ r p. entry-proper r (p .0) (p .1)) (realOf (records (itemsIn b))) real-reads
+
+  pub weight-back : sound (contentsOf b) ≡ true
+      → weight (contentsOf b) + producerSize * producers (contentsOf b .real) ≡ usedIn b + (fixedRoom - headSize)
+  weight-back h = weight-used (contentsOf b) (orderly (contentsOf b) h .ascends) proper-entries ∙ ap (λ n. n + (fixedRoom - headSize)) used-back
+
+module _ (b : Bytes) (areBytes : AreBytes b) (d : ImageHolds b) where
   number-part : (from upto : ℕ) → upto ≤ length b → number (slice from upto b) < span (upto - from)
   number-part from upto h =
       rw (length-slice from upto b h) at (number-bound (slice from upto b) (slice-are-bytes from upto b areBytes))
@@ -110,10 +122,11 @@ module _ (b : Bytes) (areBytes : AreBytes b) (d : ImageHolds b) where
   unfolding contentsOf
   fits =
       let least = capacity-least (length b) (d .within) in
+      let groups = empties-read b areBytes (d .head) (d .whole) (d .flags) in
       record {
         within = d .within;
-        entries = all-map Read Proper entryOf (λ r p. entry-proper r (p .0) (p .1)) (realOf (records (itemsIn b))) real-reads;
-        groups = all-imp Read Readable (λ r p. p .0) (emptiesOf (records (itemsIn b))) empties-read;
+        entries = proper-entries b areBytes (d .head) (d .whole) (d .flags);
+        groups = all-imp Read Readable (λ r p. p .0) (emptiesOf (records (itemsIn b))) groups;
         orderly = d .orderly;
         epoch = number-part 16 24 (omega arith);
         kraft = number-part 24 26 (omega arith);
@@ -126,7 +139,7 @@ pub image-fits : (b : Bytes) → AreBytes b → isImage b ≡ true → Fits (len
 image-fits b p h = fits b p (image-holds b h)
 
 pub image-back : (b : Bytes) → AreBytes b → isImage b ≡ true → imageOf (length b) (contentsOf b) ≡ b
-image-back b p h = back b p (image-holds b h)
+image-back b p h = let d = image-holds b h in back b p (d .head) (d .whole) (d .flags)
 
 pub image-exactly : (b : Bytes) → AreBytes b → (isImage b ≡ true) ↔ ((c : Contents) × Fits (length b) c × (imageOf (length b) c ≡ b))
 image-exactly b p = (

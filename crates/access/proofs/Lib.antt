@@ -1,0 +1,5 @@
+pub mod Body
+pub mod Values
+pub mod Sign
+pub mod Named
+pub mod Accepted

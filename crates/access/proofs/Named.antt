@@ -1,0 +1,55 @@
+-- The named answers, by whether there is a number.
+use mathlib.Core.Path.{_≡_, sym, _∙_}
+use mathlib.Core.Option.{Option, none, some}
+use Prim.Native.Nat.{ℕ, _<_}
+use lib.IntN.{ℤ}
+use Rattle.model.specs.Number.{Bytes}
+use Rattle.model.specs.Kind.{kindNumber}
+use Rattle.quota.specs.Quota.{quotaOf}
+use Rattle.quota.specs.declared.Quota.{Quota}
+use Rattle.access.specs.Access.{fieldNumber, numberIn, signed, nodeIn, epochIn, quotaIn, numbered, Below}
+use Rattle.access.specs.declared.Number.{Number}
+use Rattle.access.specs.declared.Number.the-variants.{Is, Missing}
+use Rattle.access.specs.declared.Node.the-variants.{Is as node, Missing as noNode}
+use Rattle.access.specs.declared.Epoch.the-variants.{Is as epoch, Missing as noEpoch}
+use Rattle.access.specs.declared.QuotaValue.the-variants.{Is as quotaValue, Missing as noQuota}
+
+module _ {r : Number} {p : Option ℕ} (e : numbered r ≡ p) where
+  answer-is : {n : ℕ} → r ≡ Is n → p ≡ some n
+  unfolding numbered
+  answer-is h = sym e ∙ rw h
+
+  answer-missing : r ≡ Missing → p ≡ none
+  unfolding numbered
+  answer-missing h = sym e ∙ rw h
+
+pub below-is : {bound : ℕ} {r : Number} {n : ℕ} → r ≡ Is n → Below bound r → n < bound
+unfolding Below
+below-is {bound} {r} {n} h b = let q : Below bound (Is n) = rw h at b in q
+
+module _ (s : Bytes) (tag : ℕ) {r : Number} (e : numbered r ≡ fieldNumber s tag 8) where
+  pub node-is : {n : ℕ} → r ≡ Is n → node (record { 0 = n }) ≡ nodeIn s tag
+  unfolding nodeIn
+  node-is h = rw (answer-is e h)
+
+  pub node-missing : r ≡ Missing → noNode ≡ nodeIn s tag
+  unfolding nodeIn
+  node-missing h = rw (answer-missing e h)
+
+module _ (s : Bytes) {r : Number} (e : numbered r ≡ numberIn s 2 6 4) where
+  pub epoch-is : {n : ℕ} {z : ℤ} → r ≡ Is n → z ≡ signed 4 n → epoch (record { 0 = z }) ≡ epochIn s
+  unfolding epochIn kindNumber
+  epoch-is h q = rw (answer-is e h, q)
+
+  pub epoch-missing : r ≡ Missing → noEpoch ≡ epochIn s
+  unfolding epochIn kindNumber
+  epoch-missing h = rw (answer-missing e h)
+
+module _ (s : Bytes) {r : Number} (e : numbered r ≡ numberIn s 7 3 8) where
+  pub quota-is : {n : ℕ} {q : Quota} → r ≡ Is n → q ≡ quotaOf n → quotaValue q ≡ quotaIn s
+  unfolding quotaIn kindNumber
+  quota-is h q = rw (answer-is e h, q)
+
+  pub quota-missing : r ≡ Missing → noQuota ≡ quotaIn s
+  unfolding quotaIn kindNumber
+  quota-missing h = rw (answer-missing e h)

@@ -1,0 +1,71 @@
+-- What the record at the start of some bytes holds, by tag and by name.
+use mathlib.Core.Bool.{cond}
+use mathlib.Core.List.{[]}
+use mathlib.Core.Option.{Option, none, some}
+use Prim.Native.Nat.{ℕ, suc, _+_, _-_, _<_}
+use lib.Dec.{leb, eqb}
+use lib.IntN.{ℤ, pos, negsuc}
+use lib.ListN.{length, getD}
+use lib.Seq.{slice}
+use Rattle.model.specs.Choice.{given}
+use Rattle.model.specs.Number.{Bytes, number, span, isNegative}
+use Rattle.model.specs.Run.{runOf, field}
+use Rattle.model.specs.Kind.{kindNumber}
+use Rattle.model.specs.declared.Kind.the-variants.{Partition, ClientQuota}
+use Rattle.quota.specs.Quota.{quotaOf}
+use Rattle.access.specs.declared.Number.{Number}
+use Rattle.access.specs.declared.Number.the-variants.{Is, Missing}
+use Rattle.access.specs.declared.Node.{Node}
+use Rattle.access.specs.declared.Node.the-variants.{Is as node, Missing as noNode}
+use Rattle.access.specs.declared.Epoch.{Epoch}
+use Rattle.access.specs.declared.Epoch.the-variants.{Is as epoch, Missing as noEpoch}
+use Rattle.access.specs.declared.QuotaValue.{QuotaValue}
+use Rattle.access.specs.declared.QuotaValue.the-variants.{Is as quotaValue, Missing as noQuota}
+
+-- where the record ends by its header; past the input where header or body is cut
+abbrev pub recordEnd : Bytes → ℕ
+recordEnd s = 3 + number (slice 1 3 s)
+
+-- the record's body, nothing where it is cut
+unfoldable pub bodyIn : Bytes → Bytes
+bodyIn s = cond (leb (recordEnd s) (length s)) (slice 3 (recordEnd s) s) []
+
+-- the first field of a tag
+unfoldable pub recordField : Bytes → ℕ → Option Bytes
+recordField s tag = field tag (runOf (bodyIn s))
+
+-- the number of a value of a width
+abbrev pub numberOf : ℕ → Bytes → Option ℕ
+numberOf width v = cond (eqb (length v) width) (some (number v)) none
+
+unfoldable pub fieldNumber : Bytes → ℕ → ℕ → Option ℕ
+fieldNumber s tag width = given (recordField s tag) none (numberOf width)
+
+-- the same of a record of a kind
+unfoldable pub numberIn : Bytes → ℕ → ℕ → ℕ → Option ℕ
+numberIn s kind tag width = cond (eqb (getD s 0 0) kind) (fieldNumber s tag width) none
+
+-- the signed number of the same bytes, in two's complement
+abbrev pub signed : ℕ → ℕ → ℤ
+signed width n = cond (isNegative width n) (negsuc (span width - suc n)) (pos n)
+
+-- a node, in the field of a tag
+unfoldable pub nodeIn : Bytes → ℕ → Node
+nodeIn s tag = given (fieldNumber s tag 8) noNode (λ n. node (record { 0 = n }))
+
+-- a Partition's leader epoch
+unfoldable pub epochIn : Bytes → Epoch
+epochIn s = given (numberIn s (kindNumber Partition) 6 4) noEpoch (λ n. epoch (record { 0 = signed 4 n }))
+
+-- a ClientQuota's value
+unfoldable pub quotaIn : Bytes → QuotaValue
+quotaIn s = given (numberIn s (kindNumber ClientQuota) 3 8) noQuota (λ n. quotaValue (quotaOf n))
+
+-- what an answer of `number_of` says
+unfoldable pub numbered : Number → Option ℕ
+numbered (Is n) = some n
+numbered Missing = none
+
+unfoldable pub Below : ℕ → Number → Type 0
+Below bound (Is n) = n < bound
+Below bound Missing = Unit {0}

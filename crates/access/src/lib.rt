@@ -1,0 +1,125 @@
+// Field access by tag and by name, on the record that some bytes begin with. Later bytes are not looked at, and a record that is cut has no
+// fields.
+use fields::Cursor;
+use fields::Found;
+use fields::field;
+use model::LeaderEpoch;
+use model::NodeId;
+use quota::Quota;
+use wire::get;
+use wire::get16;
+use wire::size;
+ghost use mathlib.Core.Path.{_≡_};
+ghost use Prim.Native.Nat.{_≤_};
+ghost use lib.ListN.{length};
+ghost use Rattle.model.specs.Number.{span};
+ghost use Rattle.fields.specs.Fields.{held, Within};
+ghost use Rattle.access.specs.Access.{recordField, fieldNumber, numberIn, signed as signedOf, nodeIn, epochIn, quotaIn, numbered, Below};
+
+// The first field of a tag in the record at the start of `s`.
+pub fn field_of(s: &[u8], tag: u8) -> Found
+    ensures { λ r. ⌜ (held (now (s .entry)) r ≡ recordField (now (s .entry)) tag) × Within (length (now (s .entry))) r ⌝ }
+{
+    if s.len() < 3 {
+        return Found::Missing;
+    }
+    let len = get16(s, 1);
+    if s.len() - 3 < len {
+        return Found::Missing;
+    }
+    field(s, Cursor { at: 3, to: 3 + len }, size(tag))
+}
+
+// A field's number, missing where there is no such field or it has another length.
+enum Number {
+    Is(u64),
+    Missing,
+}
+
+// The number of a field that has `width` bytes.
+fn number_of(s: &[u8], tag: u8, width: usize) -> Number
+    requires { ⌜ width ≤ 8 ⌝ }
+    ensures { λ r. ⌜ (numbered r ≡ fieldNumber (now (s .entry)) tag width) × Below (span width) r ⌝ }
+{
+    match field_of(s, tag) {
+        Found::Part { start, len } => {
+            if len != width {
+                return Number::Missing;
+            }
+            Number::Is(get(s, start, width))
+        }
+        Found::Missing => Number::Missing,
+    }
+}
+
+// The same of a record of a kind, missing of any other.
+fn number_in(s: &[u8], kind: u8, tag: u8, width: usize) -> Number
+    requires { ⌜ width ≤ 8 ⌝ }
+    ensures { λ r. ⌜ (numbered r ≡ numberIn (now (s .entry)) kind tag width) × Below (span width) r ⌝ }
+{
+    if s.len() == 0 {
+        return Number::Missing;
+    }
+    if s[0] != kind {
+        return Number::Missing;
+    }
+    number_of(s, tag, width)
+}
+
+// The signed number of the same four bytes.
+fn signed(n: u32) -> i32
+    ensures { λ r. ⌜ r ≡ signedOf 4 n ⌝ }
+{
+    if n < 0x8000_0000 {
+        return n as i32;
+    }
+    -1 - ((0xffff_ffff - n) as i32)
+}
+
+// A node, where there is one.
+pub enum Node {
+    Is(NodeId),
+    Missing,
+}
+
+// The node in the field of a tag, where it has eight bytes.
+pub fn node_id(s: &[u8], tag: u8) -> Node
+    ensures { λ r. ⌜ r ≡ nodeIn (now (s .entry)) tag ⌝ }
+{
+    match number_of(s, tag, 8) {
+        Number::Is(n) => Node::Is(NodeId(n)),
+        Number::Missing => Node::Missing,
+    }
+}
+
+// A leader epoch, where there is one.
+pub enum Epoch {
+    Is(LeaderEpoch),
+    Missing,
+}
+
+// The leader epoch of a Partition record: tag 6, where it has four bytes.
+pub fn leader_epoch(s: &[u8]) -> Epoch
+    ensures { λ r. ⌜ r ≡ epochIn (now (s .entry)) ⌝ }
+{
+    match number_in(s, 2, 6, 4) {
+        Number::Is(n) => Epoch::Is(LeaderEpoch(signed(n as u32))),
+        Number::Missing => Epoch::Missing,
+    }
+}
+
+// A quota's value, where there is one.
+pub enum QuotaValue {
+    Is(Quota),
+    Missing,
+}
+
+// The value of a ClientQuota record: tag 3, where it has eight bytes.
+pub fn quota_value(s: &[u8]) -> QuotaValue
+    ensures { λ r. ⌜ r ≡ quotaIn (now (s .entry)) ⌝ }
+{
+    match number_in(s, 7, 3, 8) {
+        Number::Is(n) => QuotaValue::Is(quota::from_bits(n)),
+        Number::Missing => QuotaValue::Missing,
+    }
+}

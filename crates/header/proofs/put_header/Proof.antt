@@ -1,0 +1,55 @@
+-- `header::put_header` meets its contract: six parts, one after another.
+use borrow.Author.Needs.{needs}
+use Rattle.model.specs.Image.{mark}
+use Rattle.header.proofs.Writes.{header-written}
+use Rattle.header.proofs.put_header.Statement.{statement}
+use Rattle.header.proofs.put_header.Tie as tie
+
+slice-aggregate-copy : tie.Need-slice-aggregate-copy
+slice-aggregate-copy c = search needs
+
+copy-requires : tie.Need-copy-requires
+copy-requires c κs = search needs
+
+put-requires : tie.Need-put-requires
+put-requires c κs = search needs
+
+put-requires-2 : tie.Need-put-requires-2
+put-requires-2 c κs = search needs
+
+put-requires-3 : tie.Need-put-requires-3
+put-requires-3 c κs = search needs
+
+put-requires-4 : tie.Need-put-requires-4
+put-requires-4 c κs = search needs
+
+put-requires-5 : tie.Need-put-requires-5
+put-requires-5 c κs = search needs
+
+same-length : tie.Need-same-length
+same-length c = search needs
+
+returns : tie.Need-returns
+unfolding mark
+returns c =
+    let l = c .before .before .before .before .before .before .before .before .before .before .before .before .before .before .before .before .before .before .before .before .before .before .copy in
+    let used = c .before .before .before .before .before .before .before .before .before .before .before .before .before .before .before .before .before .before .put in
+    let gap = c .before .before .before .before .before .before .before .before .before .before .before .before .before .before .put2 in
+    let epoch = c .before .before .before .before .before .before .before .before .before .before .put3 in
+    let kraft = c .before .before .before .before .before .before .put4 in
+    let end = c .before .before .put5 in
+    header-written (c .before .before .before .before .before .before .before .before .before .before .before .before .before .before .before .before .before .before .before .before .before .before .before .before .before .before .args .b .now) (l .last .0) (used .last .0) (gap .last .0) (epoch .last .0) (kraft .last .0) (end .last .0) _ _ _ (l .ensures) (used .ensures) (gap .ensures) (epoch .ensures) (kraft .ensures) (end .ensures)
+
+pub put-header-spec : {M : Type 1} → statement M
+put-header-spec =
+    tie.close
+    (tie.spec
+    slice-aggregate-copy
+    copy-requires
+    put-requires
+    put-requires-2
+    put-requires-3
+    put-requires-4
+    put-requires-5
+    same-length
+    returns)
