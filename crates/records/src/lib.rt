@@ -128,7 +128,7 @@ fn body_length(lengths: &[u16]) -> usize
 }
 
 // Writes what a record and a field begin with: a byte, and a length of two bytes.
-fn put_head(out: &mut [u8], at: usize, first: u8, len: usize)
+pub fn put_head(out: &mut [u8], at: usize, first: u8, len: usize)
     requires { ⌜ at + 3 ≤ length (now out) ⌝ }
     ensures { λ _. ⌜ now (out .exit) ≡ written (now (out .entry)) at (head first len) ⌝ }
 {
@@ -137,7 +137,7 @@ fn put_head(out: &mut [u8], at: usize, first: u8, len: usize)
 }
 
 // Writes a field: its tag, its length and its value.
-fn put_field(out: &mut [u8], at: usize, tag: u8, v: &[u8])
+pub fn put_field(out: &mut [u8], at: usize, tag: u8, v: &[u8])
     requires { ⌜ at + 3 + length (now v) ≤ length (now out) ⌝ }
     ensures { λ _. ⌜ now (out .exit) ≡ written (now (out .entry)) at (head tag (length (now (v .entry))) ++ now (v .entry)) ⌝ }
 {
