@@ -13,7 +13,8 @@ use Rattle.model.specs.Run.{Run, done, item, field, value, values}
 use Rattle.model.specs.Kind.{kindNumber}
 use Rattle.model.specs.Shape.{rowsOf, shapeOf, stored}
 use Rattle.model.specs.Record.{Rec, rec}
-use Rattle.model.specs.Contents.{Entry, topic, part, plain, flagBytes, kept, storable, typesInOrder, isConfig, isBare, isGroup}
+use Rattle.model.specs.Key.{keyOf, subject}
+use Rattle.model.specs.Contents.{Entry, topic, part, plain, flagBytes, kept, key, recordKey, storable, typesInOrder, isConfig, isBare, isGroup}
 use Rattle.model.specs.Image.{entryOf, flagReads, realOf, emptiesOf}
 use Rattle.model.specs.declared.Kind.{Kind}
 use Rattle.model.specs.declared.Kind.the-variants.{Topic, Partition, BrokerConfig, ClientQuota}
@@ -161,6 +162,16 @@ unfolding kept kindNumber
 kept-bare (topic name id count factor named) s = refl
 kept-bare (part r) s = refl
 kept-bare (plain r) s = storable-bare (r .kind) (r .run) s
+
+-- an entry's key is its record's
+pub entry-key : (r : Rec) → key (entryOf r) ≡ recordKey r
+unfolding entryOf key keyOf subject kindNumber
+entry-key r = go (eqb (kindNumber (r .kind)) 1) refl (eqb (kindNumber (r .kind)) 2) refl
+  where
+    go : (t : Bool) → eqb (kindNumber (r .kind)) 1 ≡ t → (p : Bool) → eqb (kindNumber (r .kind)) 2 ≡ p → key (entryOf r) ≡ recordKey r
+    go true e p f = rw (is-kind (r .kind) Topic e)
+    go false e true f = rw (is-kind (r .kind) Partition f)
+    go false e false f = rw (e, f)
 
 -- 5. The records of an image: those of entries, then the empty groups
 

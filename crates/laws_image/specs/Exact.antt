@@ -69,6 +69,9 @@ module _ (b : Bytes) (areBytes : AreBytes b) (head : HeaderHolds b) (whole : isW
   empties-read : All Read (emptiesOf (records (itemsIn b)))
   empties-read = all-append-right Read (realOf (records (itemsIn b))) (emptiesOf (records (itemsIn b))) reads
 
+  pub kept-back : All (λ r. kept (entryOf r) ≡ r) (realOf (records (itemsIn b)))
+  kept-back = all-imp Read (λ r. kept (entryOf r) ≡ r) (λ r p. kept-entry r (p .0) (p .1)) (realOf (records (itemsIn b))) real-reads
+
   -- the same records stand in the image of the contents
   standing-back : standing (contentsOf b) ≡ records (itemsIn b)
   unfolding contentsOf
@@ -76,8 +79,7 @@ module _ (b : Bytes) (areBytes : AreBytes b) (head : HeaderHolds b) (whole : isW
       let rs = records (itemsIn b) in
       let back : map kept (map entryOf (realOf rs)) ≡ realOf rs =
       map-map kept entryOf (realOf rs)
-      ∙ map-same (λ r. kept (entryOf r)) (realOf rs)
-      (all-imp Read (λ r. kept (entryOf r) ≡ r) (λ r p. kept-entry r (p .0) (p .1)) (realOf rs) real-reads) in
+      ∙ map-same (λ r. kept (entryOf r)) (realOf rs) kept-back in
       ap (λ (l : List Rec). l ++ emptiesOf rs) back ∙ real-empties rs
 
   entries-back : entryBytes (contentsOf b) ≡ slice headSize (usedIn b) b

@@ -1,0 +1,59 @@
+-- Where the empty groups begin, the real entries end.
+use mathlib.Core.Path.{_≡_, refl, sym, ap, _∙_, subst}
+use mathlib.Core.Bool.{true}
+use mathlib.Core.List.{map}
+use Prim.Native.Nat.{ℕ, _+_, _-_, _≤_}
+use native.Mathlib.Omega.{arith}
+use lib.ListN.{length, take, drop}
+use lib.Seq.{slice, length-slice, take-take}
+use Rattle.model.specs.Number.{Bytes, AreBytes}
+use Rattle.model.specs.Image.{headSize, usedIn, itemsIn, entryOf, realOf, contentsOf, isImage}
+use Rattle.model.specs.Items.{records}
+use Rattle.model.specs.Contents.{kept}
+use Rattle.laws.specs.Lists.{All}
+use Rattle.laws_image.specs.Tests.{capacity-least, image-holds}
+use Rattle.laws_image.specs.Exact.{kept-back}
+use Rattle.fields.proofs.Parse.{take-drop, take-slice}
+use Rattle.keys.proofs.Found.{lent-slice}
+use Rattle.entries.specs.Entries.{recordsIn, Entries}
+use Rattle.stored.specs.Stored.{Parted}
+use Rattle.reals.specs.Reals.{Reals}
+
+real-held : (b : Bytes) → contentsOf b .real ≡ map entryOf (realOf (records (itemsIn b)))
+unfolding contentsOf
+real-held b = refl
+
+module _ (b : Bytes) (areBytes : AreBytes b) (is : isImage b ≡ true) where
+  pub head-fits : headSize ≤ length b
+  head-fits = omega (arith, capacity-least (length b) (image-holds b is .within))
+
+  module _ {used : ℕ} (eu : used ≡ usedIn b) where
+    pub used-low : headSize ≤ used
+    used-low = omega (arith, image-holds b is .head .least)
+
+    pub used-high : used ≤ length b
+    used-high = omega (arith, image-holds b is .head .most)
+
+    entries-lent : take (used - headSize) (drop headSize b) ≡ slice headSize (usedIn b) b
+    entries-lent = lent-slice b headSize used used-low ∙ ap (λ u. slice headSize u b) eu
+
+    pub entries-there : Entries (take (used - headSize) (drop headSize b))
+    entries-there = rw entries-lent (image-holds b is .whole)
+
+    pub reals-end : (mid : ℕ) → Parted (take (used - headSize) (drop headSize b)) mid → Reals b (headSize + mid)
+    reals-end mid p =
+        let s = slice headSize (usedIn b) b in
+        let q : Parted s mid = subst (λ x. Parted x mid) entries-lent p in
+        let d = image-holds b is in
+        let n = length-slice headSize (usedIn b) b (d .head .most) in
+        let low = d .head .least in
+        let high = d .head .most in
+        let most = q .most in
+        let front : slice headSize (headSize + mid) b ≡ take mid s = sym (take-slice b headSize mid (usedIn b) (omega arith)) in
+        record {
+          low = omega arith;
+          high = omega arith;
+          entries = rw front (q .real-entries);
+          keeps = rw (front, q .reals) (kept-back b areBytes (d .head) (d .whole) (d .flags));
+          held = real-held b ∙ ap (map entryOf) (sym (ap recordsIn front ∙ q .reals));
+        }
