@@ -25,7 +25,7 @@ pub fn find(s: &[u8], kind: u8, first: &[u8], second: &[u8]) -> Place
 
 // Writes the record of the entry at a place to the start of an output. The bytes written, none where the place is empty; or 19 and nothing is
 // written.
-fn emit_place(s: &[u8], at: usize, end: usize, out: &mut [u8]) -> Answer
+pub fn emit_place(s: &[u8], at: usize, end: usize, out: &mut [u8]) -> Answer
     requires { ⌜ PlaceHolds (now s) at end ⌝ }
     ensures { λ r. ⌜ replied r ≡ emit (recordAt (now (s .entry)) at end) (now (out .entry)) .reply ⌝ }
     ensures { λ r. ⌜ now (out .exit) ≡ emit (recordAt (now (s .entry)) at end) (now (out .entry)) .buffer ⌝ }

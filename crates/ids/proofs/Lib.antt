@@ -1,0 +1,5 @@
+pub mod Named
+pub mod Apart
+pub mod Turns
+pub mod Scans
+pub mod Marks

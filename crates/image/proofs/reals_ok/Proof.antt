@@ -1,0 +1,45 @@
+-- `image::reals_ok` meets its contract, exit by exit.
+use borrow.Author.Needs.{needs}
+use Rattle.entries.specs.Entries.{recordsIn}
+use Rattle.image.proofs.Steps.{not-stored, not-ascending, not-counted, ids-decide, holds}
+use Rattle.image.proofs.reals_ok.Statement.{statement}
+use Rattle.image.proofs.reals_ok.Tie as tie
+
+all-stored-requires : tie.Need-all-stored-requires
+all-stored-requires c κs = search needs
+
+returns : tie.Need-returns
+returns c = not-stored (recordsIn (c .before .before .before .args .s .now)) (c .before .all-stored .ensures) (c .if1 .taken)
+
+ascends-requires : tie.Need-ascends-requires
+ascends-requires c κs = search needs
+
+returns-2 : tie.Need-returns-2
+returns-2 c = not-ascending (recordsIn (c .before .before .before .before .before .args .s .now)) (c .before .before .before .all-stored .ensures) (c .before .before .if1 .left) (c .before .ascends .ensures) (c .if2 .taken)
+
+counts-fit-requires : tie.Need-counts-fit-requires
+counts-fit-requires c κs = (c .before .before .before .before .before .pre, holds (c .before .ascends .ensures) (c .if2 .left))
+
+returns-3 : tie.Need-returns-3
+returns-3 c =
+    not-counted (recordsIn (c .before .before .before .before .before .before .before .args .s .now)) (c .before .before .before .before .before .all-stored .ensures) (c .before .before .before .before .if1 .left) (c .before .before .before .ascends .ensures) (c .before .before .if2 .left) (c .before .counts-fit .ensures) (c .if3 .taken)
+
+ids-apart-requires : tie.Need-ids-apart-requires
+ids-apart-requires c κs = search needs
+
+returns-4 : tie.Need-returns-4
+returns-4 c =
+    ids-decide (recordsIn (c .before .before .before .before .before .before .before .before .args .s .now)) (c .before .before .before .before .before .before .all-stored .ensures) (c .before .before .before .before .before .if1 .left) (c .before .before .before .before .ascends .ensures) (c .before .before .before .if2 .left) (c .before .before .counts-fit .ensures) (c .before .if3 .left) (c .ids-apart .ensures)
+
+pub reals-ok-spec : {M : Type 1} → statement M
+reals-ok-spec =
+    tie.close
+    (tie.spec
+    all-stored-requires
+    returns
+    ascends-requires
+    returns-2
+    counts-fit-requires
+    returns-3
+    ids-apart-requires
+    returns-4)

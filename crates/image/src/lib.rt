@@ -1,0 +1,107 @@
+// The exact test: whether a buffer is an image.
+use counts::counts_fit;
+use entries::seek;
+use groups::groups_apart;
+use header::header_ok;
+use header::is_capacity;
+use header::used_in;
+use ids::ids_apart;
+use ordered::all_read;
+use ordered::ascends;
+use shapes::all_rows;
+use stored::all_groups;
+use stored::all_stored;
+use stored::tail_start;
+ghost use mathlib.Core.Path.{_≡_};
+ghost use mathlib.Core.Bool.{true, _&&_};
+ghost use Prim.Native.Nat.{_≤_};
+ghost use lib.ListN.{length};
+ghost use Rattle.model.specs.Choice.{isSome};
+ghost use Rattle.model.specs.Key.{producerKey};
+ghost use Rattle.model.specs.Map.{get, ascending};
+ghost use Rattle.model.specs.Contents.{recordKey};
+ghost use Rattle.model.specs.Image.{isImage};
+ghost use Rattle.entries.specs.Entries.{recordsIn, Entries};
+ghost use Rattle.image.specs.Test.{realsSound, groupsSound, entriesSound, isLight};
+
+// What the fixed parts of an image weigh, and the bytes of producer ids, which weigh nothing.
+const FIXED_ROOM: usize = 128;
+
+const PRODUCER_SIZE: usize = 36;
+
+// Whether the real entries are such as Apply stores: each by itself, their keys, the topics' counts, the named ids.
+fn reals_ok(s: &[u8]) -> bool
+    requires { ⌜ Entries (now s) ⌝ }
+    ensures { λ r. ⌜ r ≡ realsSound (recordsIn (now (s .entry))) ⌝ }
+{
+    if !all_stored(s) {
+        return false;
+    }
+    if !ascends(s) {
+        return false;
+    }
+    if !counts_fit(s) {
+        return false;
+    }
+    ids_apart(s)
+}
+
+// Whether the empty groups are such: each by itself, their keys, and that none has a member among the real entries.
+fn groups_ok(s: &[u8], t: &[u8]) -> bool
+    requires { ⌜ Entries (now s) × Entries (now t) × (ascending recordKey (recordsIn (now s)) ≡ true) ⌝ }
+    ensures { λ r. ⌜ r ≡ groupsSound (recordsIn (now (s .entry))) (recordsIn (now (t .entry))) ⌝ }
+{
+    if !all_groups(t) {
+        return false;
+    }
+    if !ascends(t) {
+        return false;
+    }
+    groups_apart(s, t)
+}
+
+// Whether producer ids stand among the entries.
+fn has_producer_ids(s: &[u8]) -> bool
+    requires { ⌜ Entries (now s) ⌝ }
+    ensures { λ r. ⌜ r ≡ isSome (get recordKey producerKey (recordsIn (now (s .entry)))) ⌝ }
+{
+    let p = seek(s, b"\x08\x00\x00");
+    p.at < p.end
+}
+
+// Whether entries are such as an image of a capacity holds.
+fn entries_ok(s: &[u8], capacity: usize) -> bool
+    requires { ⌜ Entries (now s) × (length (now s) ≤ 65536) × (capacity ≤ 65536) ⌝ }
+    ensures { λ r. ⌜ r ≡ entriesSound (now (s .entry)) && isLight (now (s .entry)) capacity ⌝ }
+{
+    let mid = tail_start(s);
+    if !reals_ok(&s[..mid]) {
+        return false;
+    }
+    if !groups_ok(&s[..mid], &s[mid..]) {
+        return false;
+    }
+    let room = FIXED_ROOM + s.len();
+    if has_producer_ids(&s[..mid]) {
+        return room <= capacity + PRODUCER_SIZE;
+    }
+    room <= capacity
+}
+
+// Whether a buffer is an image.
+pub fn is_image(b: &[u8]) -> bool
+    ensures { λ r. ⌜ r ≡ isImage (now (b .entry)) ⌝ }
+{
+    if !is_capacity(b.len()) {
+        return false;
+    }
+    if !header_ok(b) {
+        return false;
+    }
+    let used = used_in(b);
+    let rows = all_rows();
+    if !all_read(&rows, &b[64..used]) {
+        return false;
+    }
+    entries_ok(&b[64..used], b.len())
+}
