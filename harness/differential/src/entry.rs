@@ -1,6 +1,12 @@
 //! The entry points of crates/exports. Their contracts ask nothing, so that
 //! every call is safe.
 
+#[cfg(feature = "images")]
+mod images;
+
+#[cfg(feature = "images")]
+pub use images::*;
+
 unsafe extern "C" {
     fn jeghatuf_read(input: *const u8, input_len: usize) -> u64;
     fn jeghatuf_write(

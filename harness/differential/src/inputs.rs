@@ -3,29 +3,12 @@
 use oracle::generate::{Generator, Knobs};
 use wire::{Run, damaged, encode};
 
+use crate::random::Random;
+
 /// The records of one generated history.
 const HISTORY: usize = 200;
 /// The damaged copies of each record, each of them damaged again by the next.
 const DAMAGED: usize = 7;
-
-/// Random numbers from a seed.
-struct Random {
-    state: u64,
-}
-
-impl Random {
-    fn next(&mut self) -> u64 {
-        self.state = self
-            .state
-            .wrapping_mul(6364136223846793005)
-            .wrapping_add(1442695040888963407);
-        self.state >> 11
-    }
-
-    fn below(&mut self, bound: usize) -> usize {
-        (self.next() % bound as u64) as usize
-    }
-}
 
 /// Byte strings without end: each record of a generated history, then damaged
 /// copies of it.
@@ -37,7 +20,7 @@ pub struct Inputs {
 
 impl Inputs {
     pub fn new(seed: u64) -> Self {
-        let random = Random { state: seed };
+        let random = Random::new(seed);
         Self {
             seed,
             random,

@@ -2,9 +2,12 @@
 //! the programs of this crate compare and time them.
 
 mod entry;
+#[cfg(feature = "images")]
+pub mod images;
 mod inputs;
+mod random;
 mod typical;
 
-pub use entry::{read, write};
+pub use entry::*;
 pub use inputs::{Inputs, Lists};
 pub use typical::typical;

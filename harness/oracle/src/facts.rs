@@ -2,7 +2,7 @@
 //! the port's rules are held to where 01 leaves the answer to the Rust.
 
 mod brokers;
-mod build;
+pub mod build;
 mod features;
 mod freezes;
 mod marked;

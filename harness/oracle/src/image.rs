@@ -3,13 +3,12 @@
 use krabka_metadata::{BrokerConfigRecord, ClientQuotaRecord, MetadataRecord, NodeId, QuotaEntity};
 use wire::encode;
 
+use crate::layout::Layout;
 use crate::observe::Observed;
 
 /// What a fresh image weighs, and the least capacity.
 pub const FIXED_ROOM: usize = 128;
 pub const MOST_CAPACITY: usize = 65_536;
-pub const HEAD_SIZE: usize = 64;
-const MARK: [u8; 8] = *b"KRABKA\x00\x01";
 
 /// What the contents weigh.
 pub fn weight(observed: &Observed) -> usize {
@@ -30,36 +29,25 @@ pub fn image(observed: &Observed, capacity: usize) -> Option<Vec<u8>> {
     if !room.contains(&capacity) || weight(observed) > capacity {
         return None;
     }
-    let entries = entries(observed);
-    let mut image = header(observed, HEAD_SIZE + entries.len());
-    image.extend(entries);
-    image.resize(capacity, 0);
-    Some(image)
+    Some(layout(observed).bytes(capacity))
 }
 
-fn header(observed: &Observed, used: usize) -> Vec<u8> {
-    let used = u32::try_from(used).expect("an image is at most 64 KB");
-    let mut header = MARK.to_vec();
-    header.extend(used.to_be_bytes());
-    header.extend([0; 4]);
-    header.extend(observed.epoch.to_be_bytes());
-    header.extend(observed.kraft.to_be_bytes());
-    header.resize(HEAD_SIZE, 0);
-    header
-}
-
-/// The stored entries, then the empty groups.
-fn entries(observed: &Observed) -> Vec<u8> {
+/// The header's numbers and the entries: the stored ones, then the empty groups.
+pub fn layout(observed: &Observed) -> Layout {
     let stored = observed.records.iter().filter_map(|record| match record {
         MetadataRecord::V1FeaturesEpoch(_) | MetadataRecord::V1KRaftVersion(_) => None,
-        MetadataRecord::V1Topic(topic) => Some(flagged(record, observed.named[&topic.name])),
+        MetadataRecord::V1Topic(topic) => Some(topic_entry(record, observed.named[&topic.name])),
         _ => Some(bytes(record)),
     });
-    stored.chain(groups(observed)).flatten().collect()
+    Layout {
+        epoch: observed.epoch,
+        kraft: observed.kraft,
+        entries: stored.chain(groups(observed)).collect(),
+    }
 }
 
 /// A topic's entry: its record with tag 5, four zeros and the flag.
-fn flagged(record: &MetadataRecord, named: bool) -> Vec<u8> {
+pub fn topic_entry(record: &MetadataRecord, named: bool) -> Vec<u8> {
     let mut entry = bytes(record);
     entry.extend([5, 0, 5, 0, 0, 0, 0, u8::from(named)]);
     let body = u16::try_from(entry.len() - 3).expect("a topic is short");

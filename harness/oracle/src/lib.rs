@@ -1,10 +1,14 @@
 //! The reference's answers in the scope paper's (01's) terms: what an image
-//! holds, in 01's order; verdicts as 01's numbers; generated histories; facts.
+//! holds, in 01's order, and its bytes; whether bytes are an image; verdicts as
+//! 01's numbers; generated histories; facts.
 
+pub mod cases;
+pub mod exact;
 pub mod facts;
 pub mod generate;
 pub mod image;
 pub mod kind;
+pub mod layout;
 pub mod observe;
 pub mod order;
 pub mod verdict;

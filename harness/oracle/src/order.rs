@@ -15,7 +15,16 @@ pub const GROUPS: [u8; 18] = [
 
 /// Sorts the records of a snapshot into 01's order.
 pub fn sort(records: &mut [MetadataRecord]) {
-    records.sort_by_cached_key(|record| (rank(record), key(record)));
+    records.sort_by_cached_key(place);
+}
+
+/// Where a record stands in 01's order: its group, then its key.
+#[derive(PartialEq, Eq, PartialOrd, Ord)]
+pub struct Place(usize, Key);
+
+/// The place of a record of a kind that a snapshot has.
+pub fn place(record: &MetadataRecord) -> Place {
+    Place(rank(record), key(record))
 }
 
 /// The entities of a quota record, as the image's key has them.

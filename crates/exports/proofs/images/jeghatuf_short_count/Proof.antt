@@ -1,0 +1,38 @@
+-- `exports::images::jeghatuf_short_count` meets its contract.
+use borrow.Author.Needs.{needs}
+use Rattle.exports.proofs.Packs.{packed-value, packed-refused}
+use Rattle.exports.proofs.images.jeghatuf_short_count.Statement.{statement}
+use Rattle.exports.proofs.images.jeghatuf_short_count.Tie as tie
+
+short-count-requires : tie.Need-short-count-requires
+short-count-requires c κs = search needs
+
+enum-known-n : tie.Need-enum-known-n
+enum-known-n c = search needs
+
+enum-known-number : tie.Need-enum-known-number
+enum-known-number c = search needs
+
+wide-requires : tie.Need-wide-requires
+wide-requires c κs = search needs
+
+mul-result : tie.Need-mul-result
+mul-result c = search needs
+
+returns : tie.Need-returns
+returns c = packed-value (c .before .before .before .short-count .ensures) (c .before .n .given .1)
+
+returns-2 : tie.Need-returns-2
+returns-2 c = packed-refused (c .before .before .before .before .short-count .ensures) (c .before .before .number .given .1) (c .wide .ensures)
+
+pub jeghatuf-short-count-spec : {M : Type 1} → statement M
+jeghatuf-short-count-spec =
+    tie.close
+    (tie.spec
+    short-count-requires
+    enum-known-n
+    enum-known-number
+    wide-requires
+    mul-result
+    returns
+    returns-2)

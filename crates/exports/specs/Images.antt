@@ -1,0 +1,12 @@
+-- A value that is too wide to come with a number: it goes to the first place of a lent list.
+use mathlib.Core.List.{List, [], _∷_}
+use Prim.Native.Nat.{ℕ}
+use Rattle.model.specs.Reply.{Reply}
+
+abbrev pub firstIs : List ℕ → List ℕ → List ℕ
+firstIs [] l = l
+firstIs (v ∷ vs) [] = []
+firstIs (v ∷ vs) (x ∷ l) = v ∷ l
+
+abbrev pub widened : Reply → List ℕ → List ℕ
+widened r l = firstIs (r .values) l

@@ -1,0 +1,96 @@
+// Open, the exact test and the lookups for programs in other languages.
+use crate::pack;
+use lookup::Value;
+use model::NodeId;
+use wire::wide;
+ghost use mathlib.Core.Path.{_≡_};
+ghost use mathlib.Core.Bool.{cond};
+ghost use Prim.Native.Nat.{_*_};
+ghost use Rattle.model.specs.Image.{isImage, openOf};
+ghost use Rattle.model.specs.Lookup.{topicByName, topicById, partitionOf, brokerOf, epochOf, shortOf};
+ghost use Rattle.exports.specs.Exports.{packed};
+ghost use Rattle.exports.specs.Images.{widened};
+
+// Opens a fresh image in a buffer of 128 to 65,536 bytes.
+#[no_mangle]
+pub extern "C" fn jeghatuf_open(buffer: &mut [u8]) -> u64
+    ensures { λ r. ⌜ r ≡ packed (openOf (now (buffer .entry)) .reply) ⌝ }
+    ensures { λ _. ⌜ now (buffer .exit) ≡ openOf (now (buffer .entry)) .buffer ⌝ }
+{
+    wide(header::open(buffer)) * 0x1_0000_0000
+}
+
+// Whether a buffer is an image: 1 or 0.
+#[no_mangle]
+pub extern "C" fn jeghatuf_is_image(buffer: &[u8]) -> u64
+    ensures { λ r. ⌜ r ≡ cond (isImage (now (buffer .entry))) 1 0 ⌝ }
+{
+    if image::is_image(buffer) {
+        return 1;
+    }
+    0
+}
+
+// The topic of a name, as its record: the bytes written.
+#[no_mangle]
+pub extern "C" fn jeghatuf_topic(image: &[u8], name: &[u8], out: &mut [u8]) -> u64
+    ensures { λ r. ⌜ r ≡ packed (topicByName (now (image .entry)) (now (name .entry)) (now (out .entry)) .reply) ⌝ }
+    ensures { λ _. ⌜ now (out .exit) ≡ topicByName (now (image .entry)) (now (name .entry)) (now (out .entry)) .buffer ⌝ }
+{
+    pack(lookup::topic(image, name, out))
+}
+
+// The topic that the id index names for an id of 16 bytes, as its record.
+#[no_mangle]
+pub extern "C" fn jeghatuf_topic_by_id(image: &[u8], id: &[u8; 16], out: &mut [u8]) -> u64
+    ensures { λ r. ⌜ r ≡ packed (topicById (now (image .entry)) (now (id .entry)) (now (out .entry)) .reply) ⌝ }
+    ensures { λ _. ⌜ now (out .exit) ≡ topicById (now (image .entry)) (now (id .entry)) (now (out .entry)) .buffer ⌝ }
+{
+    pack(lookup::topic_by_id(image, id, out))
+}
+
+// The partition of a topic and a number, which is given by its four bytes as an unsigned one, as its record.
+#[no_mangle]
+pub extern "C" fn jeghatuf_partition(image: &[u8], name: &[u8], number: u32, out: &mut [u8]) -> u64
+    ensures { λ r. ⌜ r ≡ packed (partitionOf (now (image .entry)) (now (name .entry)) number (now (out .entry)) .reply) ⌝ }
+    ensures { λ _. ⌜ now (out .exit) ≡ partitionOf (now (image .entry)) (now (name .entry)) number (now (out .entry)) .buffer ⌝ }
+{
+    pack(lookup::partition(image, name, number, out))
+}
+
+// The broker of a node, as its record.
+#[no_mangle]
+pub extern "C" fn jeghatuf_broker(image: &[u8], node: u64, out: &mut [u8]) -> u64
+    ensures { λ r. ⌜ r ≡ packed (brokerOf (now (image .entry)) node (now (out .entry)) .reply) ⌝ }
+    ensures { λ _. ⌜ now (out .exit) ≡ brokerOf (now (image .entry)) node (now (out .entry)) .buffer ⌝ }
+{
+    pack(lookup::broker(image, NodeId(node), out))
+}
+
+// How many partitions are short.
+#[no_mangle]
+pub extern "C" fn jeghatuf_short_count(image: &[u8]) -> u64
+    ensures { λ r. ⌜ r ≡ packed (shortOf (now (image .entry))) ⌝ }
+{
+    match lookup::short_count(image) {
+        Value::Is(n) => n,
+        Value::Refused(number) => wide(number) * 0x1_0000_0000,
+    }
+}
+
+// The features epoch, by its bytes, in the first of `value`.
+#[no_mangle]
+pub extern "C" fn jeghatuf_features_epoch(image: &[u8], value: &mut [u64]) -> u64
+    ensures { λ r. ⌜ r ≡ epochOf (now (image .entry)) .number * 4294967296 ⌝ }
+    ensures { λ _. ⌜ now (value .exit) ≡ widened (epochOf (now (image .entry))) (now (value .entry)) ⌝ }
+{
+    match lookup::features_epoch(image) {
+        Value::Is(n) => {
+            if value.len() > 0 {
+                value[0] = n;
+            }
+            0
+        }
+        Value::Refused(number) => wide(number) * 0x1_0000_0000,
+    }
+}

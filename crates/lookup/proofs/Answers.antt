@@ -1,0 +1,177 @@
+-- Lookups, exit by exit.
+use mathlib.Core.Path.{_≡_, refl, sym, ap, _∙_}
+use mathlib.Core.Bool.{Bool, true, false, not}
+use mathlib.Core.List.{List, [], _∷_, map}
+use mathlib.Core.Option.{Option}
+use Prim.Native.Nat.{ℕ, zero, suc, _-_, _≤_}
+use native.Mathlib.Omega.{arith}
+use borrow.Author.Tests.{not-true, not-false, leb-true}
+use lib.Dec.{leb}
+use lib.ListN.{length, take, drop}
+use lib.Seq.{slice}
+use Rattle.model.specs.Choice.{orThen, unless}
+use Rattle.model.specs.Number.{Bytes, bytes}
+use Rattle.model.specs.Order.{Key}
+use Rattle.model.specs.Text.{isText}
+use Rattle.model.specs.Run.{field}
+use Rattle.model.specs.Shape.{stringLimit, textFault}
+use Rattle.model.specs.Kind.{kindOf, kinds}
+use Rattle.model.specs.Key.{keyOf, subject, topicKey, partitionKey, nodeKey}
+use Rattle.model.specs.Record.{Rec}
+use Rattle.model.specs.Map.{get}
+use Rattle.model.specs.Contents.{Entry, key}
+use Rattle.model.specs.Image.{headSize, fixedIn, entryOf, isImage, contentsOf}
+use Rattle.model.specs.Reply.{Reply, accepted, refused, Ended, unchanged}
+use Rattle.model.specs.Snapshot.{emit}
+use Rattle.model.specs.Lookup.{found, named, namedBy, topicByName, topicById, partitionOf, brokerOf, epochOf, shortCount, shortOf}
+use Rattle.model.specs.declared.Kind.the-variants.{Topic, Partition, BrokerRegistration}
+use Rattle.laws.specs.Choice.{orThen-right, unless-true}
+use Rattle.laws.specs.Numbers.{length-bytes}
+use Rattle.laws_image.specs.Tests.{capacity-least, image-holds}
+use Rattle.keys.proofs.Found.{lent-slice}
+use Rattle.entries.specs.Entries.{recordsIn, Entries}
+use Rattle.found.specs.Found.{Query, queryKey, foundIn, AllKept}
+use Rattle.reals.specs.Reals.{Reals}
+
+-- 1. The real entries, as they are lent
+
+module _ (image : Bytes) (end : ℕ) (r : Reals image end) where
+  abbrev lent : Bytes
+  lent = take (end - headSize) (drop headSize image)
+
+  lent-part : lent ≡ slice headSize end image
+  lent-part = lent-slice image headSize end (r .low)
+
+  pub lent-entries : Entries lent
+  lent-entries = rw lent-part (r .entries)
+
+  pub lent-kept : AllKept (recordsIn lent)
+  lent-kept = rw lent-part (r .keeps)
+
+  pub lent-held : map entryOf (recordsIn lent) ≡ contentsOf image .real
+  lent-held = ap (λ s. map entryOf (recordsIn s)) lent-part ∙ sym (r .held)
+
+  pub lent-found : (k : Key) → foundIn k lent ≡ found (get key k (contentsOf image .real))
+  unfolding foundIn
+  lent-found k = ap (λ l. found (get key k l)) lent-held
+
+-- 2. What is asked for
+
+pub name-fits : (name : Bytes) → 0 ≡ textFault stringLimit name → length name ≤ 255
+name-fits name e =
+    leb-true (length name) stringLimit (unless-true (leb (length name) stringLimit) 5 (omega arith) (orThen-right (unless (isText name) 4) (unless (leb (length name) stringLimit) 5) (sym e)))
+
+pub topic-query : (name : Bytes) → length name ≤ 255 → Query 1 name []
+unfolding kindOf kinds field
+topic-query name h = record { of = Topic; known = refl; first-fits = h; second-fits = omega arith; widths = tt }
+
+pub partition-query : (name number : Bytes) → length name ≤ 255 → length number ≡ 4 → Query 2 name number
+unfolding kindOf kinds field
+partition-query name number h k = record { of = Partition; known = refl; first-fits = h; second-fits = omega arith; widths = k }
+
+pub broker-query : (node : Bytes) → length node ≡ 8 → Query 3 node []
+unfolding kindOf kinds field
+broker-query node k = record { of = BrokerRegistration; known = refl; first-fits = omega arith; second-fits = omega arith; widths = k }
+
+topic-key : (name : Bytes) → queryKey 1 name [] ≡ topicKey name
+unfolding queryKey kindOf kinds keyOf subject field
+topic-key name = refl
+
+partition-key : (name number : Bytes) → queryKey 2 name number ≡ partitionKey Partition name number
+unfolding queryKey kindOf kinds keyOf subject field
+partition-key name number = refl
+
+broker-key : (node : Bytes) → queryKey 3 node [] ≡ nodeKey BrokerRegistration node
+unfolding queryKey kindOf kinds keyOf subject field
+broker-key node = refl
+
+pub image-head : (image : Bytes) → isImage image ≡ true → headSize ≤ length image
+image-head image h = omega (arith, capacity-least (length image) (image-holds image h .within))
+
+-- 3. The answers
+
+abbrev Same : Reply → Bytes → Ended → Type 0
+Same r o e = (r ≡ e .reply) × (o ≡ e .buffer)
+
+-- what is emitted of a key's entry, for what is emitted of another name of the key
+same-key : (image out : Bytes) (k l : Key) → k ≡ l → {r : Reply} {o : Bytes} → Same r o (emit (found (get key k (contentsOf image .real))) out)
+    → Same r o (emit (found (get key l (contentsOf image .real))) out)
+same-key image out k l e s = rw (← e) s
+
+module _ (image out : Bytes) {is : Bool} (ei : is ≡ isImage image) where
+  module _ (no : not is ≡ true) where
+    pub topic-no-image : (name : Bytes) → Same (refused 1) out (topicByName image name out)
+    unfolding topicByName
+    topic-no-image name = rw (← ei, not-true is no) (refl, refl)
+
+    pub id-no-image : (id : Bytes) → Same (refused 1) out (topicById image id out)
+    unfolding topicById
+    id-no-image id = rw (← ei, not-true is no) (refl, refl)
+
+    pub partition-no-image : (name : Bytes) (n : ℕ) → Same (refused 1) out (partitionOf image name n out)
+    unfolding partitionOf
+    partition-no-image name n = rw (← ei, not-true is no) (refl, refl)
+
+    pub broker-no-image : (node : ℕ) → Same (refused 1) out (brokerOf image node out)
+    unfolding brokerOf
+    broker-no-image node = rw (← ei, not-true is no) (refl, refl)
+
+    pub epoch-no-image : refused 1 ≡ epochOf image
+    unfolding epochOf
+    epoch-no-image = rw (← ei, not-true is no)
+
+    pub short-no-image : refused 1 ≡ shortOf image
+    unfolding shortOf
+    short-no-image = rw (← ei, not-true is no)
+
+  module _ (yes′ : not is ≡ false) where
+    pub image-is : isImage image ≡ true
+    image-is = sym ei ∙ not-false is yes′
+
+    -- a name that is refused
+    module _ (name : Bytes) {f : ℕ} (ef : f ≡ textFault stringLimit name) (wrong : f ≡ 0 → ⊥) where
+      refused-name : (rs : List Rec) → Same (refused f) out (named (textFault stringLimit name) rs out)
+      refused-name rs = rw (← ef) (go f wrong)
+        where
+          go : (n : ℕ) → (n ≡ 0 → ⊥) → Same (refused n) out (named n rs out)
+          go zero w = absurd (w refl)
+          go (suc n) w = (refl, refl)
+
+      pub topic-refused : Same (refused f) out (topicByName image name out)
+      unfolding topicByName
+      topic-refused = rw image-is (refused-name (found (get key (topicKey name) (contentsOf image .real))))
+
+      pub partition-refused : (n : ℕ) → Same (refused f) out (partitionOf image name n out)
+      unfolding partitionOf
+      partition-refused n = rw image-is (refused-name (found (get key (partitionKey Partition name (bytes 4 n)) (contentsOf image .real))))
+
+    -- what is found
+    module _ {r : Reply} {o : Bytes} where
+      pub topic-found : (name : Bytes) → 0 ≡ textFault stringLimit name → Same r o (emit (found (get key (queryKey 1 name []) (contentsOf image .real))) out)
+          → Same r o (topicByName image name out)
+      unfolding topicByName
+      topic-found name e s = rw (image-is, ← e) (same-key image out (queryKey 1 name []) (topicKey name) (topic-key name) s)
+
+      pub partition-found : (name : Bytes) (n : ℕ) (number : Bytes) → number ≡ bytes 4 n → 0 ≡ textFault stringLimit name
+          → Same r o (emit (found (get key (queryKey 2 name number) (contentsOf image .real))) out) → Same r o (partitionOf image name n out)
+      unfolding partitionOf
+      partition-found name n number q e s =
+          rw (image-is, ← e) (same-key image out (queryKey 2 name number) (partitionKey Partition name (bytes 4 n)) (partition-key name number ∙ ap (partitionKey Partition name) q) s)
+
+      pub broker-found : (n : ℕ) (node : Bytes) → node ≡ bytes 8 n → Same r o (emit (found (get key (queryKey 3 node []) (contentsOf image .real))) out)
+          → Same r o (brokerOf image n out)
+      unfolding brokerOf
+      broker-found n node q s =
+          rw image-is (same-key image out (queryKey 3 node []) (nodeKey BrokerRegistration (bytes 8 n)) (broker-key node ∙ ap (nodeKey BrokerRegistration) q) s)
+
+      pub id-found : (id : Bytes) {l : List Entry} → l ≡ contentsOf image .real → Same r o (emit (found (namedBy id l)) out) → Same r o (topicById image id out)
+      unfolding topicById
+      id-found id e s = rw (image-is, ← e) s
+
+    pub epoch-found : {n : ℕ} → n ≡ fixedIn image .epoch → accepted (n ∷ []) ≡ epochOf image
+    unfolding epochOf contentsOf
+    epoch-found e = rw (image-is, ← e)
+
+    pub short-found : {n : ℕ} {l : List Entry} → l ≡ contentsOf image .real → n ≡ shortCount l → accepted (n ∷ []) ≡ shortOf image
+    unfolding shortOf
+    short-found q e = rw (image-is, ← q, ← e)

@@ -1,0 +1,43 @@
+-- `lookup::topic` meets its contract.
+use borrow.Author.Needs.{needs}
+use mathlib.Core.Path.{sym, _∙_}
+use Rattle.lookup.proofs.Answers.{topic-no-image, image-is, topic-refused, name-fits, topic-query, topic-found}
+use Rattle.lookup.proofs.topic.Statement.{statement}
+use Rattle.lookup.proofs.topic.Tie as tie
+
+is-image-requires : tie.Need-is-image-requires
+is-image-requires c κs = search needs
+
+returns : tie.Need-returns
+returns c = topic-no-image (c .before .before .before .before .before .args .image .now) (c .before .before .before .before .before .args .out .now) (c .before .is-image .ensures) (c .if1 .taken) _
+
+text-fault-requires : tie.Need-text-fault-requires
+text-fault-requires c κs = search needs
+
+returns-2 : tie.Need-returns-2
+returns-2 c = topic-refused (c .before .before .before .before .before .before .before .args .image .now) (c .before .before .before .before .before .before .before .args .out .now) (c .before .before .before .is-image .ensures) (c .before .before .if1 .left) _ (c .before .text-fault .ensures) (c .if2 .taken)
+
+slice-aggregate-entry : tie.Need-slice-aggregate-entry
+slice-aggregate-entry c = search needs
+
+entry-requires : tie.Need-entry-requires
+entry-requires c κs = (image-is (c .before .before .before .before .before .before .before .before .before .args .image .now) (c .before .before .before .before .before .before .before .before .before .args .image .now) (c .before .before .before .before .before .is-image .ensures) (c .before .before .before .before .if1 .left), topic-query _ (name-fits _ (sym (c .before .before .if2 .left) ∙ c .before .before .before .text-fault .ensures)))
+
+same-length : tie.Need-same-length
+same-length c = search needs
+
+returns-3 : tie.Need-returns-3
+returns-3 c = topic-found (c .before .before .before .before .before .before .before .before .before .before .before .before .args .image .now) (c .before .before .before .before .before .before .before .before .before .before .before .before .args .out .now) (c .before .before .before .before .before .before .before .before .is-image .ensures) (c .before .before .before .before .before .before .before .if1 .left) _ (sym (c .before .before .before .before .before .if2 .left) ∙ c .before .before .before .before .before .before .text-fault .ensures) (c .before .before .entry .ensures)
+
+pub topic-spec : {M : Type 1} → statement M
+topic-spec =
+    tie.close
+    (tie.spec
+    is-image-requires
+    returns
+    text-fault-requires
+    returns-2
+    slice-aggregate-entry
+    entry-requires
+    same-length
+    returns-3)

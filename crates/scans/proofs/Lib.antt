@@ -1,0 +1,3 @@
+pub mod Short
+pub mod Counted
+pub mod Named

@@ -1,0 +1,131 @@
+//! The entry points of images: Open, the exact test and the lookups.
+
+use super::unpacked;
+
+unsafe extern "C" {
+    fn jeghatuf_open(buffer: *mut u8, buffer_len: usize) -> u64;
+    fn jeghatuf_is_image(buffer: *const u8, buffer_len: usize) -> u64;
+    fn jeghatuf_topic(
+        image: *const u8,
+        image_len: usize,
+        name: *const u8,
+        name_len: usize,
+        out: *mut u8,
+        out_len: usize,
+    ) -> u64;
+    fn jeghatuf_topic_by_id(
+        image: *const u8,
+        image_len: usize,
+        id: *const [u8; 16],
+        out: *mut u8,
+        out_len: usize,
+    ) -> u64;
+    fn jeghatuf_partition(
+        image: *const u8,
+        image_len: usize,
+        name: *const u8,
+        name_len: usize,
+        number: u32,
+        out: *mut u8,
+        out_len: usize,
+    ) -> u64;
+    fn jeghatuf_broker(
+        image: *const u8,
+        image_len: usize,
+        node: u64,
+        out: *mut u8,
+        out_len: usize,
+    ) -> u64;
+    fn jeghatuf_features_epoch(
+        image: *const u8,
+        image_len: usize,
+        value: *mut u64,
+        value_len: usize,
+    ) -> u64;
+    fn jeghatuf_short_count(image: *const u8, image_len: usize) -> u64;
+}
+
+/// Makes the buffer a fresh image. The value is 0.
+pub fn open(buffer: &mut [u8]) -> Result<usize, u8> {
+    // SAFETY: the pointer and the length are a slice's, which is borrowed alone.
+    unpacked(unsafe { jeghatuf_open(buffer.as_mut_ptr(), buffer.len()) })
+}
+
+/// The exact test: 1 for an image, else 0.
+pub fn is_image(buffer: &[u8]) -> u64 {
+    // SAFETY: the pointer and the length are a slice's.
+    unsafe { jeghatuf_is_image(buffer.as_ptr(), buffer.len()) }
+}
+
+/// The bytes of the topic's record that were written, 0 where there is none.
+pub fn topic(image: &[u8], name: &[u8], out: &mut [u8]) -> Result<usize, u8> {
+    // SAFETY: each pointer and length are a slice's, and `out` is borrowed alone.
+    unpacked(unsafe {
+        jeghatuf_topic(
+            image.as_ptr(),
+            image.len(),
+            name.as_ptr(),
+            name.len(),
+            out.as_mut_ptr(),
+            out.len(),
+        )
+    })
+}
+
+/// As `topic`, for the topic that the id names.
+pub fn topic_by_id(image: &[u8], id: &[u8; 16], out: &mut [u8]) -> Result<usize, u8> {
+    // SAFETY: each pointer and length are a slice's, and `out` is borrowed alone.
+    unpacked(unsafe {
+        jeghatuf_topic_by_id(
+            image.as_ptr(),
+            image.len(),
+            id,
+            out.as_mut_ptr(),
+            out.len(),
+        )
+    })
+}
+
+/// As `topic`, for a partition of the topic; the number goes as its bits.
+pub fn partition(image: &[u8], name: &[u8], number: i32, out: &mut [u8]) -> Result<usize, u8> {
+    // SAFETY: each pointer and length are a slice's, and `out` is borrowed alone.
+    unpacked(unsafe {
+        jeghatuf_partition(
+            image.as_ptr(),
+            image.len(),
+            name.as_ptr(),
+            name.len(),
+            number.cast_unsigned(),
+            out.as_mut_ptr(),
+            out.len(),
+        )
+    })
+}
+
+/// As `topic`, for a broker's registration.
+pub fn broker(image: &[u8], node: u64, out: &mut [u8]) -> Result<usize, u8> {
+    // SAFETY: each pointer and length are a slice's, and `out` is borrowed alone.
+    unpacked(unsafe {
+        jeghatuf_broker(
+            image.as_ptr(),
+            image.len(),
+            node,
+            out.as_mut_ptr(),
+            out.len(),
+        )
+    })
+}
+
+/// Puts the bits of the features epoch into `value[0]`. The value is 0.
+pub fn features_epoch(image: &[u8], value: &mut [u64]) -> Result<usize, u8> {
+    // SAFETY: each pointer and length are a slice's, and `value` is borrowed alone.
+    unpacked(unsafe {
+        jeghatuf_features_epoch(image.as_ptr(), image.len(), value.as_mut_ptr(), value.len())
+    })
+}
+
+/// How many partitions have an ISR shorter than their replicas.
+pub fn short_count(image: &[u8]) -> Result<usize, u8> {
+    // SAFETY: the pointer and the length are a slice's.
+    unpacked(unsafe { jeghatuf_short_count(image.as_ptr(), image.len()) })
+}

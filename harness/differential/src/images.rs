@@ -1,0 +1,22 @@
+//! Compares the entry points of images with the harness's own answers and with
+//! the reference's images of generated histories.
+
+mod buffers;
+mod cases;
+mod exact;
+mod full;
+mod history;
+mod lookups;
+mod open;
+mod subject;
+mod tally;
+
+pub use buffers::compare_random;
+pub use cases::compare_cases;
+pub use full::Full;
+pub use history::compare_history;
+pub use open::compare_open;
+pub use tally::Tally;
+
+/// Nothing, or the first difference in words.
+pub type Compared = Result<(), String>;

@@ -1,0 +1,67 @@
+//! The reference's image after some records, and its layout.
+
+use krabka_metadata::{MetadataImage, MetadataRecord};
+use oracle::generate::{Generator, Knobs};
+use oracle::image::{layout, weight};
+use oracle::layout::Layout;
+use oracle::observe::{Observed, Witness, observe};
+use oracle::verdict::offset_leaves_i64;
+use uuid::Uuid;
+
+/// The records of one generated history.
+const STEPS: usize = 90;
+
+pub struct Subject {
+    pub image: MetadataImage,
+    pub observed: Observed,
+    pub layout: Layout,
+    pub weight: usize,
+}
+
+impl Subject {
+    /// Applies the records without validation. An offset that leaves i64 is
+    /// left out: the reference has no answer there.
+    pub fn of(records: &[MetadataRecord]) -> Self {
+        let mut image = MetadataImage::new(Uuid::nil());
+        let mut witness = Witness::default();
+        for record in records {
+            if !offset_leaves_i64(&image, record) {
+                witness.see(record);
+                image.apply(record);
+            }
+        }
+        let observed = observe(&image, &witness);
+        Self {
+            layout: layout(&observed),
+            weight: weight(&observed),
+            image,
+            observed,
+        }
+    }
+}
+
+/// Histories of several kinds: validated, not validated, within demand 3's
+/// premises, and each with few or many values at the limits.
+fn knobs(seed: u64) -> Knobs {
+    Knobs {
+        extreme: [0, 0, 1, 4][(seed / 3 % 4) as usize],
+        validated: !seed.is_multiple_of(3),
+        premises: seed % 3 == 1,
+        ..Knobs::default()
+    }
+}
+
+/// The records that a generated history applies.
+pub fn applied(seed: u64) -> Vec<MetadataRecord> {
+    let knobs = knobs(seed);
+    let mut image = MetadataImage::new(Uuid::nil());
+    let mut records = Generator::new(seed, knobs).history(STEPS);
+    records.retain(|record| {
+        let applies = knobs.applies(&image, record);
+        if applies {
+            image.apply(record);
+        }
+        applies
+    });
+    records
+}
