@@ -7,7 +7,6 @@ use lib.Dec.{eqb}
 use lib.ListN.{length, drop, take}
 use Rattle.model.specs.Choice.{every}
 use Rattle.model.specs.Number.{Bytes, number}
-use Rattle.model.specs.Order.{Key, compareKeys, isBelow}
 use Rattle.model.specs.Run.{value}
 use Rattle.model.specs.Kind.{kindNumber}
 use Rattle.model.specs.Record.{Rec}
@@ -17,22 +16,14 @@ use Rattle.model.specs.Image.{entryOf, flagReads, realOf, emptiesOf}
 use Rattle.laws.specs.Choice.{and-left, and-right, and-both}
 use Rattle.laws.specs.Lists.{All, every-map, every-append, every-true, all-every, all-imp}
 use Rattle.laws.specs.Count.{count-map, any-map}
-use Rattle.laws_image.specs.Entries.{entry-key, real-empties, bare-reads, group-bare}
+use Rattle.laws_image.specs.Entries.{entry-key, ascending-entries, real-empties, bare-reads, group-bare}
 use Rattle.stored.specs.Stored.{storableRecord, isStored}
 use Rattle.counts.specs.Counts.{countFits}
 use Rattle.groups.specs.Groups.{apartIn}
 use Rattle.entries.specs.Entries.{recordsIn}
 use Rattle.image.specs.Test.{realsSound, groupsSound, holding, entriesSound}
 
--- 1. Keys
-
-ascending-entries : (l : List Rec) → ascending key (map entryOf l) ≡ ascending recordKey l
-unfolding ascending
-ascending-entries [] = refl
-ascending-entries (x ∷ []) = refl
-ascending-entries (x ∷ y ∷ l) = rw (entry-key x, entry-key y, ascending-entries (y ∷ l))
-
--- 2. What is stored, and the counts
+-- 1. What is stored, and the counts
 
 storable-entry : (l : List Rec) (r : Rec) → storableEntry (map entryOf l) (entryOf r) ≡ storableRecord r && countFits l r
 unfolding storableEntry partitions entryOf countFits
@@ -69,7 +60,7 @@ stored-entries l =
     ∙ every-same (λ r. storableEntry (map entryOf l) (entryOf r)) (λ r. storableRecord r && countFits l r) (storable-entry l) l
     ∙ every-both storableRecord (countFits l) l
 
--- 3. The empty groups
+-- 2. The empty groups
 
 vacant-groups : (l gs : List Rec) → every (λ g. isGroup g && not (any key (inGroupOf g) (map entryOf l))) gs ≡ every isGroup gs && every (apartIn l) gs
 unfolding apartIn
@@ -78,7 +69,7 @@ vacant-groups l gs =
     (λ g. ap (λ t. isGroup g && not t) (any-map recordKey key entryOf entry-key (inGroupOf g) l)) gs
     ∙ every-both isGroup (apartIn l) gs
 
--- 4. All clauses, in the order of the tests
+-- 3. All clauses, in the order of the tests
 
 module _ (l gs : List Rec) (f : Fixed) where
   sound-clauses : sound (holding l gs f)

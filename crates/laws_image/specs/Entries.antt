@@ -1,6 +1,6 @@
 -- Entries and the records that stand for them in an image undo each other.
 use mathlib.Core.Path.{_≡_, refl, sym, ap}
-use mathlib.Core.List.{List, [], _∷_, _++_}
+use mathlib.Core.List.{List, [], _∷_, _++_, map}
 use mathlib.Core.Bool.{Bool, true, false, cond, _&&_, _||_}
 use Prim.Native.Nat.{ℕ, zero, suc, _≤_, _<_}
 use native.Mathlib.Omega.{arith}
@@ -14,6 +14,7 @@ use Rattle.model.specs.Kind.{kindNumber}
 use Rattle.model.specs.Shape.{rowsOf, shapeOf, stored}
 use Rattle.model.specs.Record.{Rec, rec}
 use Rattle.model.specs.Key.{keyOf, subject}
+use Rattle.model.specs.Map.{ascending}
 use Rattle.model.specs.Contents.{Entry, topic, part, plain, flagBytes, kept, key, recordKey, storable, typesInOrder, isConfig, isBare, isGroup}
 use Rattle.model.specs.Image.{entryOf, flagReads, realOf, emptiesOf}
 use Rattle.model.specs.declared.Kind.{Kind}
@@ -172,6 +173,12 @@ entry-key r = go (eqb (kindNumber (r .kind)) 1) refl (eqb (kindNumber (r .kind))
     go true e p f = rw (is-kind (r .kind) Topic e)
     go false e true f = rw (is-kind (r .kind) Partition f)
     go false e false f = rw (e, f)
+
+pub ascending-entries : (l : List Rec) → ascending key (map entryOf l) ≡ ascending recordKey l
+unfolding ascending
+ascending-entries [] = refl
+ascending-entries (x ∷ []) = refl
+ascending-entries (x ∷ y ∷ l) = rw (entry-key x, entry-key y, ascending-entries (y ∷ l))
 
 -- 5. The records of an image: those of entries, then the empty groups
 

@@ -1,16 +1,19 @@
 -- Where the empty groups begin, the real entries end.
 use mathlib.Core.Path.{_≡_, refl, sym, ap, _∙_, subst}
-use mathlib.Core.Bool.{true}
+use mathlib.Core.Bool.{true, not, _&&_}
 use mathlib.Core.List.{map}
 use Prim.Native.Nat.{ℕ, _+_, _-_, _≤_}
 use native.Mathlib.Omega.{arith}
 use lib.ListN.{length, take, drop}
 use lib.Seq.{slice, length-slice, take-take}
 use Rattle.model.specs.Number.{Bytes, AreBytes}
-use Rattle.model.specs.Image.{headSize, usedIn, itemsIn, entryOf, realOf, contentsOf, isImage}
+use Rattle.model.specs.Image.{headSize, usedIn, itemsIn, entryOf, realOf, emptiesOf, contentsOf, isImage}
 use Rattle.model.specs.Items.{records}
-use Rattle.model.specs.Contents.{kept}
-use Rattle.laws.specs.Lists.{All}
+use Rattle.model.specs.Choice.{every}
+use Rattle.model.specs.Map.{any, ascending}
+use Rattle.model.specs.Contents.{kept, key, recordKey, isGroup, inGroupOf, namedApart, storableEntry, sound}
+use Rattle.laws.specs.Choice.{and-left}
+use Rattle.laws_image.specs.Entries.{ascending-entries}
 use Rattle.laws_image.specs.Tests.{capacity-least, image-holds}
 use Rattle.laws_image.specs.Exact.{kept-back}
 use Rattle.fields.proofs.Parse.{take-drop, take-slice}
@@ -22,6 +25,18 @@ use Rattle.reals.specs.Reals.{Reals}
 real-held : (b : Bytes) → contentsOf b .real ≡ map entryOf (realOf (records (itemsIn b)))
 unfolding contentsOf
 real-held b = refl
+
+real-ascends : (b : Bytes) → isImage b ≡ true → ascending key (map entryOf (realOf (records (itemsIn b)))) ≡ true
+unfolding sound contentsOf
+real-ascends b is =
+    let l = map entryOf (realOf (records (itemsIn b))) in
+    let a = ascending key l in
+    let s = every (storableEntry l) l in
+    let n = namedApart l in
+    let gs = emptiesOf (records (itemsIn b)) in
+    let g = ascending recordKey gs in
+    let v = every (λ r. isGroup r && not (any key (inGroupOf r) l)) gs in
+    and-left a s (and-left (a && s) n (and-left (a && s && n) g (and-left (a && s && n && g) v (image-holds b is .orderly))))
 
 module _ (b : Bytes) (areBytes : AreBytes b) (is : isImage b ≡ true) where
   pub head-fits : headSize ≤ length b
@@ -55,5 +70,6 @@ module _ (b : Bytes) (areBytes : AreBytes b) (is : isImage b ≡ true) where
           high = omega arith;
           entries = rw front (q .real-entries);
           keeps = rw (front, q .reals) (kept-back b areBytes (d .head) (d .whole) (d .flags));
+          ascends = rw (front, q .reals) (sym (ascending-entries (realOf (records (itemsIn b)))) ∙ real-ascends b is);
           held = real-held b ∙ ap (map entryOf) (sym (ap recordsIn front ∙ q .reals));
         }
