@@ -1,4 +1,4 @@
-// Open, the exact test and the lookups for programs in other languages.
+// Open, the exact test, Validate and the lookups for programs in other languages.
 use crate::pack;
 use lookup::Value;
 use model::NodeId;
@@ -8,6 +8,7 @@ ghost use mathlib.Core.Bool.{cond};
 ghost use Prim.Native.Nat.{_*_};
 ghost use Rattle.model.specs.Image.{isImage, openOf};
 ghost use Rattle.model.specs.Lookup.{topicByName, topicById, partitionOf, brokerOf, epochOf, shortOf};
+ghost use Rattle.model.specs.Validate.{validateOf};
 ghost use Rattle.exports.specs.Exports.{packed};
 ghost use Rattle.exports.specs.Images.{widened};
 
@@ -29,6 +30,14 @@ pub extern "C" fn jeghatuf_is_image(buffer: &[u8]) -> u64
         return 1;
     }
     0
+}
+
+// The first refusal of the record at the start of `input`.
+#[no_mangle]
+pub extern "C" fn jeghatuf_validate(image: &[u8], input: &[u8]) -> u64
+    ensures { λ r. ⌜ r ≡ packed (validateOf (now (image .entry)) (now (input .entry))) ⌝ }
+{
+    wide(validate::validate(image, input)) * 0x1_0000_0000
 }
 
 // The topic of a name, as its record: the bytes written.

@@ -10,6 +10,7 @@ mod lookups;
 mod open;
 mod subject;
 mod tally;
+mod verdicts;
 
 pub use buffers::compare_random;
 pub use cases::compare_cases;

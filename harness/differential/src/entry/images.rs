@@ -5,6 +5,12 @@ use super::unpacked;
 unsafe extern "C" {
     fn jeghatuf_open(buffer: *mut u8, buffer_len: usize) -> u64;
     fn jeghatuf_is_image(buffer: *const u8, buffer_len: usize) -> u64;
+    fn jeghatuf_validate(
+        image: *const u8,
+        image_len: usize,
+        input: *const u8,
+        input_len: usize,
+    ) -> u64;
     fn jeghatuf_topic(
         image: *const u8,
         image_len: usize,
@@ -55,6 +61,18 @@ pub fn open(buffer: &mut [u8]) -> Result<usize, u8> {
 pub fn is_image(buffer: &[u8]) -> u64 {
     // SAFETY: the pointer and the length are a slice's.
     unsafe { jeghatuf_is_image(buffer.as_ptr(), buffer.len()) }
+}
+
+/// Validate's number of the record at the start of the input.
+pub fn validate(image: &[u8], input: &[u8]) -> u8 {
+    // SAFETY: each pointer and length are a slice's.
+    let answer = unsafe {
+        jeghatuf_validate(image.as_ptr(), image.len(), input.as_ptr(), input.len())
+    };
+    match unpacked(answer) {
+        Ok(_) => 0,
+        Err(number) => number,
+    }
 }
 
 /// The bytes of the topic's record that were written, 0 where there is none.

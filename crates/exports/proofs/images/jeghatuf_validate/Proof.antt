@@ -1,0 +1,20 @@
+-- `exports::images::jeghatuf_validate` meets its contract.
+use borrow.Author.Needs.{needs}
+use Rattle.exports.proofs.Packs.{packed-number}
+use Rattle.exports.proofs.images.jeghatuf_validate.Statement.{statement}
+use Rattle.exports.proofs.images.jeghatuf_validate.Tie as tie
+
+validate-requires : tie.Need-validate-requires
+validate-requires c κs = search needs
+
+wide-requires : tie.Need-wide-requires
+wide-requires c κs = search needs
+
+mul-result : tie.Need-mul-result
+mul-result c = search needs
+
+returns : tie.Need-returns
+returns c = packed-number (c .wide .ensures) (c .before .validate .ensures)
+
+pub jeghatuf-validate-spec : {M : Type 1} → statement M
+jeghatuf-validate-spec = tie.close (tie.spec validate-requires wide-requires mul-result returns)

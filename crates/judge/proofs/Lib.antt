@@ -1,0 +1,9 @@
+pub mod Fields
+pub mod Logged
+pub mod Queries
+pub mod Held
+pub mod Counted
+pub mod Replaced
+pub mod Epochs
+pub mod Approvals
+pub mod Settled

@@ -1,0 +1,30 @@
+-- `values::place_in` meets its contract: half the width more, or half the width less.
+use borrow.Author.Needs.{needs}
+use Rattle.model.specs.Run.{value}
+use Rattle.keys.specs.Keys.{runIn}
+use Rattle.judge.proofs.Fields.{place-fits, place-up, place-down}
+use Rattle.judge.proofs.values.place_in.Statement.{statement}
+use Rattle.judge.proofs.values.place_in.Tie as tie
+
+number-in-requires : tie.Need-number-in-requires
+number-in-requires c κs = search needs
+
+half-of-requires : tie.Need-half-of-requires
+half-of-requires c κs = search needs
+
+add-result : tie.Need-add-result
+add-result c = let a = c .before .before .before .before in record { fits = place-fits _ _ _ (c .before .half-of .ensures) (a .pre .1) (a .pre .2) (c .if1 .taken) }
+
+returns : tie.Need-returns
+returns c =
+    let a = c .before .before .before .before .args in
+    place-up _ _ _ (c .before .half-of .ensures) (value (a .tag) (runIn (a .e .now))) (c .before .before .number-in .ensures .0) (c .if1 .taken)
+
+returns-2 : tie.Need-returns-2
+returns-2 c =
+    let a = c .before .before .before .before .args in
+    place-down _ _ _ (c .before .half-of .ensures) (value (a .tag) (runIn (a .e .now))) (c .before .before .number-in .ensures) (c .if1 .left)
+
+pub place-in-spec : {M : Type 1} → statement M
+place-in-spec =
+    tie.close (tie.spec number-in-requires half-of-requires add-result returns returns-2)

@@ -1,0 +1,26 @@
+// Validate: what stands against a record. It changes nothing.
+use header::NO_IMAGE;
+use image::is_image;
+use judge::judge;
+use reals::reals_end;
+use records::Answer;
+use records::read;
+ghost use mathlib.Core.Path.{_≡_};
+ghost use Rattle.model.specs.Validate.{validateOf};
+ghost use Rattle.header.specs.Header.{numbered};
+
+// The number of the first refusal of the record at the start of `input`, 0 where there is none. Later bytes are not looked at.
+pub fn validate(image: &[u8], input: &[u8]) -> u8
+    ensures { λ r. ⌜ numbered r ≡ validateOf (now (image .entry)) (now (input .entry)) ⌝ }
+{
+    if !is_image(image) {
+        return NO_IMAGE;
+    }
+    match read(input) {
+        Answer::Refused(number) => number,
+        Answer::Used(n) => {
+            let end = reals_end(image);
+            judge(&image[64..end], &input[..n])
+        }
+    }
+}

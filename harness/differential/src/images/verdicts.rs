@@ -1,0 +1,55 @@
+//! Validate of generated records, good and damaged, against an image.
+
+use oracle::generate::{Generator, Knobs};
+use oracle::verdict::verdict;
+use wire::{encode, read};
+
+use super::subject::Subject;
+use super::{Compared, Tally};
+use crate::random::Random;
+use crate::validate;
+
+/// The records that are validated against each image.
+const RECORDS: usize = 60;
+
+const WHAT: &str = "validate";
+
+/// The reference's verdict on each record; of a damaged one, Read's.
+pub fn compare(tally: &mut Tally, subject: &Subject, image: &[u8], seed: u64) -> Compared {
+    let knobs = Knobs {
+        accepted: 30,
+        ..Knobs::default()
+    };
+    let mut generator = Generator::new(seed, knobs);
+    let mut random = Random::new(seed);
+    for _ in 0..RECORDS {
+        let record = generator.record(&subject.image);
+        let expected = verdict(&subject.image, &record);
+        let bytes = encode(&record).expect("a kind that 01 has");
+        // Later bytes are not looked at.
+        let longer = [&bytes[..], &[7, 0, 1]].concat();
+        expect(tally, image, &longer, expected, || format!("{record:?}"))?;
+        let cut = &bytes[..random.below(bytes.len())];
+        let number = read(cut).expect_err("a record that is cut");
+        expect(tally, image, cut, number, || format!("{record:?} cut"))?;
+    }
+    Ok(())
+}
+
+fn expect(
+    tally: &mut Tally,
+    image: &[u8],
+    input: &[u8],
+    expected: u8,
+    question: impl Fn() -> String,
+) -> Compared {
+    let number = validate(image, input);
+    tally.count(WHAT, &number.to_string());
+    match number == expected {
+        true => Ok(()),
+        false => Err(format!(
+            "{}: the verdict is {number}, not {expected}",
+            question()
+        )),
+    }
+}
