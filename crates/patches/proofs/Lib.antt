@@ -1,0 +1,3 @@
+pub mod Topics
+pub mod Entries
+pub mod Walks
