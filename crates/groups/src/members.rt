@@ -13,7 +13,7 @@ ghost use Rattle.entries.specs.Entries.{IsRecord, recordIn};
 ghost use Rattle.groups.specs.Groups.{leading};
 
 // Where the fields of tag 1 that a record begins with end: a config's node, a quota's entities.
-fn leading_end(s: &[u8]) -> usize
+pub fn leading_end(s: &[u8]) -> usize
     requires { ⌜ IsRecord (now s) ⌝ }
     ensures { λ r. ⌜ (runIn (take r (now (s .entry))) ≡ leading (runIn (now (s .entry)))) × (3 ≤ r) × (r ≤ length (now (s .entry))) ⌝ }
 {

@@ -28,7 +28,7 @@ use Rattle.keys.proofs.Found.{lent-slice}
 use Rattle.image.specs.Test.{entriesSound, producersIn, isLight}
 
 -- one bound for another
-same-bound : (a b c d : ℕ) → (a ≤ b → c ≤ d) → (c ≤ d → a ≤ b) → leb a b ≡ leb c d
+pub same-bound : (a b c d : ℕ) → (a ≤ b → c ≤ d) → (c ≤ d → a ≤ b) → leb a b ≡ leb c d
 same-bound a b c d f g = go (leb a b) refl (leb c d) refl
   where
     go : (x : Bool) → leb a b ≡ x → (y : Bool) → leb c d ≡ y → x ≡ y

@@ -25,9 +25,9 @@ ghost use Rattle.entries.specs.Entries.{recordsIn, Entries};
 ghost use Rattle.image.specs.Test.{realsSound, groupsSound, entriesSound, isLight};
 
 // What the fixed parts of an image weigh, and the bytes of producer ids, which weigh nothing.
-const FIXED_ROOM: usize = 128;
+pub const FIXED_ROOM: usize = 128;
 
-const PRODUCER_SIZE: usize = 36;
+pub const PRODUCER_SIZE: usize = 36;
 
 // Whether the real entries are such as Apply stores: each by itself, their keys, the topics' counts, the named ids.
 fn reals_ok(s: &[u8]) -> bool
@@ -61,7 +61,7 @@ fn groups_ok(s: &[u8], t: &[u8]) -> bool
 }
 
 // Whether producer ids stand among the entries.
-fn has_producer_ids(s: &[u8]) -> bool
+pub fn has_producer_ids(s: &[u8]) -> bool
     requires { ⌜ Entries (now s) ⌝ }
     ensures { λ r. ⌜ r ≡ isSome (get recordKey producerKey (recordsIn (now (s .entry)))) ⌝ }
 {

@@ -26,14 +26,14 @@ use Rattle.judge.proofs.Held.{Held, held, held-run, none-run}
 -- 1. The broker of a node
 
 module _ (s rec : Bytes) {at end : ℕ} (p : Placed s (queryKey 3 (value 1 (runIn rec)) []) at end) where
-  same-broker : runAt (queryKey 3 (value 1 (runIn rec)) []) (entriesIn s) ≡ brokerAt (value 1 (runIn rec)) (entriesIn s)
+  pub same-broker : runAt (queryKey 3 (value 1 (runIn rec)) []) (entriesIn s) ≡ brokerAt (value 1 (runIn rec)) (entriesIn s)
   same-broker = ap (λ k. runAt k (entriesIn s)) (broker-key (value 1 (runIn rec)))
 
   pub no-broker : end ≤ at → false ≡ atEpoch (value 2 (runIn rec)) (brokerAt (value 1 (runIn rec)) (entriesIn s))
   no-broker empty = sym (ap (atEpoch (value 2 (runIn rec))) (sym same-broker ∙ none-run s p empty))
 
   module _ (areBytes : AreBytes s) (whole : Entries s) (longer : at < end) where
-    broker-held : Held s (queryKey 3 (value 1 (runIn rec)) []) BrokerRegistration (take (end - at) (drop at s))
+    pub broker-held : Held s (queryKey 3 (value 1 (runIn rec)) []) BrokerRegistration (take (end - at) (drop at s))
     unfolding queryKey kindOf kinds keyOf keyRank rank
     broker-held = held s p areBytes whole longer BrokerRegistration refl (omega arith)
 

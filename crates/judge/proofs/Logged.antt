@@ -42,18 +42,18 @@ module _ (s : Bytes) (i : IsLogged s) where
   pub headed : 3 ≤ length s
   headed = omega (arith, ap length (i .bytes), length-record (i .value))
 
-  logged-in : loggedIn s ≡ i .value
+  pub logged-in : loggedIn s ≡ i .value
   logged-in =
       ap (λ g. onGot g (λ n. rec Topic done) (λ r n. r))
       (ap (read logged) (i .bytes ∙ sym (append-nil (recordBytes (i .value)))) ∙ read-record logged (i .value) [] (i .passes))
 
-  kind-in : kindIn s ≡ kindNumber (loggedIn s .kind)
+  pub kind-in : kindIn s ≡ kindNumber (loggedIn s .kind)
   kind-in = ap kindIn (i .bytes) ∙ first-byte (i .value) ∙ ap (λ r. kindNumber (r .kind)) (sym logged-in)
 
-  run-in : runIn s ≡ loggedIn s .run
+  pub run-in : runIn s ≡ loggedIn s .run
   run-in = ap runIn (i .bytes) ∙ record-run (i .value) (i .passes) ∙ ap (λ r. r .run) (sym logged-in)
 
-  passes : fault logged (loggedIn s .kind) (runIn s) ≡ 0
+  pub passes : fault logged (loggedIn s .kind) (runIn s) ≡ 0
   passes = rw (run-in, logged-in) (i .passes)
 
   -- 2. A number that no kind has
@@ -70,7 +70,7 @@ module _ (s : Bytes) (i : IsLogged s) where
   -- 3. By the kind
 
   module _ (k : Kind) (is : kindIn s ≡ kindNumber k) where
-    kind-is : loggedIn s .kind ≡ k
+    pub kind-is : loggedIn s .kind ≡ k
     kind-is = number-injective (loggedIn s .kind) k (sym kind-in ∙ is)
 
     pub value-of : (tag : ℕ) {row : Row} → rowAt (rowsOf (shapeOf logged k)) tag ≡ some row → isRequired (row .presence) ≡ true

@@ -63,7 +63,7 @@ pub fn unknown_controller(s: &[u8], rec: &[u8]) -> u8
 }
 
 // The stored next producer id by its place among signed numbers; nothing stored counts as 0.
-fn stored_next(s: &[u8]) -> u64
+pub fn stored_next(s: &[u8]) -> u64
     requires { ⌜ Entries (now s) ⌝ }
     ensures { λ r. ⌜ r ≡ place 8 (number (storedNext (entriesIn (now (s .entry))))) ⌝ }
 {

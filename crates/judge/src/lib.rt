@@ -7,10 +7,12 @@ mod refusals;
 mod topics;
 mod values;
 
-use brokers::at_epoch;
+pub use brokers::at_epoch;
 use brokers::producer_fault;
+pub use brokers::stored_next;
 use brokers::unknown_controller;
 use keys::value_at;
+pub use lookups::find_named;
 use proposals::proposal_fault;
 use refusals::EMPTY_SCOPE;
 use refusals::STALE_CHANGE;
@@ -19,19 +21,17 @@ use topics::topic_exists;
 use topics::unknown_nested;
 use topics::unknown_partition;
 use topics::unknown_topic;
+pub use values::place_in;
+pub use values::same_value;
 use values::unless;
 ghost use mathlib.Core.Path.{_≡_};
-ghost use mathlib.Core.Bool.{true};
 ghost use mathlib.Core.List.{map};
 ghost use Prim.Native.Nat.{_≤_};
 ghost use lib.ListN.{length};
-ghost use Rattle.model.specs.Map.{ascending};
-ghost use Rattle.model.specs.Contents.{recordKey};
 ghost use Rattle.model.specs.Image.{entryOf};
 ghost use Rattle.model.specs.Validate.{judge as judgeOf};
 ghost use Rattle.keys.specs.Keys.{runIn};
 ghost use Rattle.entries.specs.Entries.{recordsIn, Entries};
-ghost use Rattle.found.specs.Found.{AllKept};
 ghost use Rattle.judge.specs.Judge.{IsLogged, loggedIn, emptyScope};
 
 // Whether a freeze's scope is empty, a literal or a prefix.
@@ -45,7 +45,7 @@ fn empty_scope(rec: &[u8]) -> bool
 
 // The first refusal of a record that Read accepts, 0 where there is none.
 pub fn judge(s: &[u8], rec: &[u8]) -> u8
-    requires { ⌜ Entries (now s) × AllKept (recordsIn (now s)) × (ascending recordKey (recordsIn (now s)) ≡ true) × IsLogged (now rec) ⌝ }
+    requires { ⌜ Entries (now s) × IsLogged (now rec) ⌝ }
     ensures { λ r. ⌜ r ≡ judgeOf (loggedIn (now (rec .entry))) (map entryOf (recordsIn (now (s .entry)))) ⌝ }
 {
     match rec[0] {

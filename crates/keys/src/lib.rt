@@ -74,7 +74,7 @@ pub fn value_at(s: &[u8], tag: usize) -> Part
 }
 
 // The order of two records' fields of a tag, by bytes.
-fn compare_field(a: &[u8], b: &[u8], tag: usize) -> Order
+pub fn compare_field(a: &[u8], b: &[u8], tag: usize) -> Order
     requires { ⌜ (3 ≤ length (now a)) × (3 ≤ length (now b)) ⌝ }
     ensures { λ r. ⌜ ordering r ≡ compareBytes (value tag (runIn (now (a .entry)))) (value tag (runIn (now (b .entry)))) ⌝ }
 {

@@ -36,7 +36,7 @@ fields-record r ok h =
     rw (run-bytes (r .run) (fault-whole stored (r .kind) (r .run) ok) (fault-short stored (r .kind) (r .run) ok)) at
     (fields-run (bytesOf (r .run)) (h .1 .1 .1))
 
-readable-records : (rs : List Rec) → AllPass stored rs → AreBytes (joined recordBytes rs) → All Readable rs
+pub readable-records : (rs : List Rec) → AllPass stored rs → AreBytes (joined recordBytes rs) → All Readable rs
 readable-records [] ok h = tt
 readable-records (r ∷ rs) ok h =
     let here = left-are-bytes (recordBytes r) (joined recordBytes rs) h in

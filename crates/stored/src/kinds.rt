@@ -63,7 +63,7 @@ fn is_positive(n: u64) -> bool
 
 // Whether Apply stores such a record: no level 0, Recovered, thawed freeze, two empty ELR lists or empty topic, metrics or group configs;
 // quota types in order; a next producer id above 0.
-fn is_storable(e: &[u8]) -> bool
+pub fn is_storable(e: &[u8]) -> bool
     requires { ⌜ IsRecord (now e) ⌝ }
     ensures { λ r. ⌜ r ≡ storableRecord (recordIn (now (e .entry))) ⌝ }
 {

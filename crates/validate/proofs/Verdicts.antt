@@ -11,8 +11,6 @@ use Rattle.model.specs.Number.{Bytes, AreBytes}
 use Rattle.model.specs.Run.{done}
 use Rattle.model.specs.Shape.{logged}
 use Rattle.model.specs.Record.{Rec, rec, recordBytes, Got, bad, got, onGot, read, readOf}
-use Rattle.model.specs.Map.{ascending}
-use Rattle.model.specs.Contents.{recordKey}
 use Rattle.model.specs.Image.{headSize, entryOf, isImage, contentsOf}
 use Rattle.model.specs.Reply.{Reply, accepted, refused}
 use Rattle.model.specs.Validate.{judge, validateOf}
@@ -22,14 +20,13 @@ use Rattle.laws_records.specs.Records.{record-read, read-later}
 use Rattle.header.specs.Header.{numbered}
 use Rattle.keys.proofs.Found.{lent-slice}
 use Rattle.entries.specs.Entries.{recordsIn, Entries}
-use Rattle.found.specs.Found.{AllKept}
 use Rattle.judge.specs.Judge.{IsLogged, loggedIn}
 use Rattle.reals.specs.Reals.{Reals}
 
 -- 1. The record
 
 -- what Read's answer says of what was read
-refused-bad : (g : Got) (n : ℕ) → refused n ≡ onGot g refused (λ r used. accepted (used ∷ [])) → g ≡ bad n
+pub refused-bad : (g : Got) (n : ℕ) → refused n ≡ onGot g refused (λ r used. accepted (used ∷ [])) → g ≡ bad n
 refused-bad (bad m) n e = ap bad (sym (ap (λ r. r .number) e))
 refused-bad (got r used) n e = let q : _≡_ {A = ℕ} 0 1 = ap (λ x. length (x .values)) e in impossible q
 
@@ -42,7 +39,7 @@ used-got (got r used) n e = (r, ap (got r) (sym (ap (λ x. first (x .values)) e)
     first (x ∷ l) = x
 
 module _ (input : Bytes) (areBytes : AreBytes input) {n : ℕ} (e : accepted (n ∷ []) ≡ readOf input) where
-  it : (r : Rec) × (read logged input ≡ got r n)
+  pub it : (r : Rec) × (read logged input ≡ got r n)
   unfolding readOf
   it = used-got (read logged input) n e
 
@@ -55,7 +52,7 @@ module _ (input : Bytes) (areBytes : AreBytes input) {n : ℕ} (e : accepted (n 
   pub record-logged : IsLogged (take n input)
   record-logged = let d = record-read logged input (it .0) n areBytes (it .1) in record { value = it .0; bytes = d .0; passes = d .1 }
 
-  logged-is : loggedIn (take n input) ≡ it .0
+  pub logged-is : loggedIn (take n input) ≡ it .0
   logged-is =
       ap (λ g. onGot g (λ n. rec Topic done) (λ r n. r))
       (ap (read logged) (sym (append-nil (take n input))) ∙ read-later logged input (it .0) n (it .1) [])
@@ -71,12 +68,6 @@ module _ (image : Bytes) (end : ℕ) (r : Reals image end) where
 
   pub lent-entries : Entries lent
   lent-entries = rw lent-part (r .entries)
-
-  pub lent-kept : AllKept (recordsIn lent)
-  lent-kept = rw lent-part (r .keeps)
-
-  pub lent-ascends : ascending recordKey (recordsIn lent) ≡ true
-  lent-ascends = rw lent-part (r .ascends)
 
   lent-held : map entryOf (recordsIn lent) ≡ contentsOf image .real
   lent-held = ap (λ s. map entryOf (recordsIn s)) lent-part ∙ sym (r .held)

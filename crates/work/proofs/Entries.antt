@@ -1,16 +1,16 @@
 -- A move of records is the same move of the entries that they stand for.
 use mathlib.Core.Path.{_≡_}
-use mathlib.Core.Bool.{false}
+use mathlib.Core.Bool.{Bool, false}
 use mathlib.Core.List.{List, map}
 use lib.Dec.{eqb}
 use Rattle.model.specs.Order.{Key}
 use Rattle.model.specs.Kind.{kindNumber}
 use Rattle.model.specs.Record.{Rec}
-use Rattle.model.specs.Map.{put, remove, get}
+use Rattle.model.specs.Map.{put, remove, keep, get}
 use Rattle.model.specs.Contents.{plain, key, recordKey}
 use Rattle.model.specs.Image.{entryOf}
 use Rattle.laws.specs.Choice.{over}
-use Rattle.laws.specs.Map.{map-put, map-remove, get-map}
+use Rattle.laws.specs.Map.{map-put, map-remove, map-keep, get-map}
 use Rattle.laws_image.specs.Entries.{entry-key}
 
 pub entries-put : (r : Rec) (l : List Rec) → map entryOf (put recordKey r l) ≡ put key (entryOf r) (map entryOf l)
@@ -18,6 +18,9 @@ entries-put r l = map-put recordKey key entryOf entry-key r l
 
 pub entries-remove : (k : Key) (l : List Rec) → map entryOf (remove recordKey k l) ≡ remove key k (map entryOf l)
 entries-remove k l = map-remove recordKey key entryOf entry-key k l
+
+pub entries-keep : (test : Key → Bool) (l : List Rec) → map entryOf (keep recordKey test l) ≡ keep key test (map entryOf l)
+entries-keep test l = map-keep recordKey key entryOf entry-key test l
 
 pub entries-get : (k : Key) (l : List Rec) → get key k (map entryOf l) ≡ over entryOf (get recordKey k l)
 entries-get k l = get-map recordKey key entryOf entry-key k l

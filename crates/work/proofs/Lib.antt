@@ -1,3 +1,5 @@
 pub mod Moves
+pub mod Made
+pub mod Proper
 pub mod Entries
 pub mod Loads

@@ -1,5 +1,6 @@
 -- A work array after a change of one of its two parts: the part has its new list, and the other is as it was.
 use mathlib.Core.Path.{_≡_, ap}
+use mathlib.Core.Bool.{Bool}
 use mathlib.Core.List.{List}
 use Prim.Native.Nat.{ℕ, _+_, _-_, _≤_}
 use native.Mathlib.Omega.{arith}
@@ -9,14 +10,14 @@ use Rattle.model.specs.Number.{Bytes, AreBytes}
 use Rattle.model.specs.Order.{Key}
 use Rattle.model.specs.Record.{Rec}
 use Rattle.model.specs.Shape.{stored}
-use Rattle.model.specs.Map.{put, remove}
+use Rattle.model.specs.Map.{put, remove, keep}
 use Rattle.model.specs.Contents.{kept, recordKey}
 use Rattle.model.specs.Image.{entryOf}
 use Rattle.laws.specs.Numbers.{slice-are-bytes}
-use Rattle.laws.specs.Map.{all-put, all-remove}
+use Rattle.laws.specs.Map.{all-put, all-remove, all-keep}
 use Rattle.laws_records.specs.Items.{AllPass}
 use Rattle.entries.specs.Entries.{recordsIn, spelt, Entries, IsRecord, recordIn, Changed}
-use Rattle.entries.proofs.Parts.{put-pass, remove-pass, before-kept, after-kept, part-entries, part-records}
+use Rattle.entries.proofs.Parts.{put-pass, remove-pass, keep-pass, before-kept, after-kept, part-entries, part-records}
 use Rattle.found.specs.Found.{AllKept}
 use Rattle.work.specs.Work.{realsIn, groupsIn, Good}
 use Rattle.work.specs.declared.Room.{Room}
@@ -83,7 +84,7 @@ module _ {w v : Bytes} {room : Room} {n : ℕ} {l : List Rec} (good : Good w roo
         p .list,
       )
 
--- 3. The four moves
+-- 3. The five moves
 
 module _ {w v : Bytes} {room : Room} {n : ℕ} (areBytes : AreBytes w) (good : Good w room) where
   pub put-reals : {new : Bytes} {upto : ℕ} → IsRecord new → kept (entryOf (recordIn new)) ≡ recordIn new → upto ≡ n - (room .used - room .mid)
@@ -104,6 +105,16 @@ module _ {w v : Bytes} {room : Room} {n : ℕ} (areBytes : AreBytes w) (good : G
       let q =
       reals-changed good (remove-pass (slice 0 (room .mid) w) k (slice-are-bytes 0 (room .mid) w areBytes) (good .reals)) e
       (all-remove recordKey (λ r. kept (entryOf r) ≡ r) k (realsIn w room) (good .keeps)) (c .0) in
+      (q .0, q .1, q .2, c .1)
+
+  pub keep-reals : (test : Key → Bool) {upto : ℕ} → upto ≡ n - (room .used - room .mid)
+      → Changed w v 0 (room .mid) (room .used) n (keep recordKey test (realsIn w room)) × (n ≤ room .used)
+      → Good v (at-room upto n) × (realsIn v (at-room upto n) ≡ keep recordKey test (realsIn w room)) × (groupsIn v (at-room upto n) ≡ groupsIn w room) ×
+      (n ≤ room .used)
+  keep-reals test e c =
+      let q =
+      reals-changed good (keep-pass (slice 0 (room .mid) w) test (slice-are-bytes 0 (room .mid) w areBytes) (good .reals)) e
+      (all-keep recordKey (λ r. kept (entryOf r) ≡ r) test (realsIn w room) (good .keeps)) (c .0) in
       (q .0, q .1, q .2, c .1)
 
   pub put-groups : {new : Bytes} → IsRecord new

@@ -1,10 +1,15 @@
--- A work array: the records of its two parts, and what holds of one in order.
-use mathlib.Core.List.{List}
-use Prim.Native.Nat.{_≤_}
+-- A work array: the records of its two parts, what holds of one in order, and what moves make of it.
+use mathlib.Core.Path.{_≡_}
+use mathlib.Core.List.{List, map}
+use Prim.Native.Nat.{ℕ, _+_, _*_, _≤_}
 use lib.ListN.{length, take}
 use lib.Seq.{slice}
 use Rattle.model.specs.Number.{Bytes}
 use Rattle.model.specs.Record.{Rec}
+use Rattle.model.specs.Contents.{Entry, Fixed, Contents}
+use Rattle.model.specs.Image.{entryOf}
+use Rattle.model.specs.Move.{Move, moves}
+use Rattle.laws_records.specs.Lengths.{longestBody}
 use Rattle.entries.specs.Entries.{recordsIn, Entries}
 use Rattle.found.specs.Found.{AllKept}
 use Rattle.work.specs.declared.Room.{Room}
@@ -22,3 +27,21 @@ pub record Good (w : Bytes) (room : Room) : Type 0 where
   pub reals : Entries (take (room .mid) w)
   pub groups : Entries (slice (room .mid) (room .used) w)
   pub keeps : AllKept (realsIn w room)
+
+-- what it holds, beside the fixed parts
+abbrev pub heldIn : Bytes → Room → List Entry
+heldIn w room = map entryOf (realsIn w room)
+
+abbrev pub contentsIn : Bytes → Room → Fixed → Contents
+contentsIn w room f = record { real = heldIn w room; empties = groupsIn w room; fixed = f }
+
+-- no record is longer: three bytes, and the longest body
+abbrev pub mostRecord : ℕ
+mostRecord = 3 + longestBody
+
+-- a work array after moves: in order, with the entries that they make, each at most one record longer
+pub record Made (ms : List Move) (w : Bytes) (room : Room) (v : Bytes) (r : Room) : Type 0 where
+  pub good : Good v r
+  pub real : (f : Fixed) → heldIn v r ≡ moves ms (contentsIn w room f) .real
+  pub empties : (f : Fixed) → groupsIn v r ≡ moves ms (contentsIn w room f) .empties
+  pub most : r .used ≤ room .used + mostRecord * length ms

@@ -1,6 +1,7 @@
 // The work array of Apply: an image's real entries and its empty groups, back to back in a lent buffer.
 use entries::put;
 use entries::remove;
+use entries::remove_topic;
 use header::HEAD_SIZE;
 use header::used_in;
 use stored::tail_start;
@@ -9,8 +10,9 @@ ghost use mathlib.Core.Bool.{true};
 ghost use mathlib.Core.List.{map};
 ghost use Prim.Native.Nat.{_+_, _≤_};
 ghost use lib.ListN.{length};
-ghost use Rattle.model.specs.Map.{put as putIn, remove as removeIn};
+ghost use Rattle.model.specs.Map.{put as putIn, remove as removeIn, keep};
 ghost use Rattle.model.specs.Contents.{kept, recordKey};
+ghost use Rattle.model.specs.Move.{apartFrom};
 ghost use Rattle.model.specs.Image.{headSize, usedIn, entryOf, contentsOf, isImage};
 ghost use Rattle.keys.specs.Keys.{keyIn, Keyed};
 ghost use Rattle.entries.specs.Entries.{IsRecord, recordIn};
@@ -44,6 +46,20 @@ pub fn drop_real(w: &mut [u8], room: Room, probe: &[u8]) -> Room
     let mid = room.mid;
     let used = room.used;
     let left = remove(w, 0, mid, used, probe);
+    Room {
+        mid: left - (used - mid),
+        used: left,
+    }
+}
+
+// Takes the real entries under a topic out.
+pub fn drop_topic(w: &mut [u8], room: Room, name: &[u8]) -> Room
+    requires { ⌜ Good (now w) room ⌝ }
+    ensures { λ r. ⌜ Good (now (w .exit)) r × (realsIn (now (w .exit)) r ≡ keep recordKey (apartFrom (now (name .entry))) (realsIn (now (w .entry)) room)) × (groupsIn (now (w .exit)) r ≡ groupsIn (now (w .entry)) room) × (r .used ≤ room .used) ⌝ }
+{
+    let mid = room.mid;
+    let used = room.used;
+    let left = remove_topic(w, 0, mid, used, name);
     Room {
         mid: left - (used - mid),
         used: left,

@@ -15,38 +15,38 @@ use Rattle.judge.proofs.judge.Statement.{statement}
 use Rattle.judge.proofs.judge.Tie as tie
 
 shared-slice-read-match : tie.Need-shared-slice-read-match
-shared-slice-read-match c = omega (arith, headed _ (c .before .before .before .pre .3))
+shared-slice-read-match c = omega (arith, headed _ (c .before .before .before .pre .1))
 
 topic-exists-requires : tie.Need-topic-exists-requires
-topic-exists-requires c κs = let p = c .before .before .before .before .pre in (p .0, topic-logged _ (p .3) (c .match .keys1))
+topic-exists-requires c κs = let p = c .before .before .before .before .pre in (p .0, topic-logged _ (p .1) (c .match .keys1))
 
 unknown-topic-requires : tie.Need-unknown-topic-requires
 unfolding rowsOf shapeOf kindNumber
-unknown-topic-requires c κs = let p = c .before .before .before .before .pre in (p .0, headed _ (p .3), value-of _ (p .3) Partition (c .match .keys2) 1 refl refl .1)
+unknown-topic-requires c κs = let p = c .before .before .before .before .pre in (p .0, headed _ (p .1), value-of _ (p .1) Partition (c .match .keys2) 1 refl refl .1)
 
 unknown-topic-requires-2 : tie.Need-unknown-topic-requires-2
 unfolding rowsOf shapeOf kindNumber
-unknown-topic-requires-2 c κs = let p = c .before .before .before .before .pre in (p .0, headed _ (p .3), value-of _ (p .3) DeleteTopic (c .match .keys4) 1 refl refl .1)
+unknown-topic-requires-2 c κs = let p = c .before .before .before .before .pre in (p .0, headed _ (p .1), value-of _ (p .1) DeleteTopic (c .match .keys4) 1 refl refl .1)
 
 unknown-topic-requires-3 : tie.Need-unknown-topic-requires-3
 unfolding rowsOf shapeOf kindNumber
-unknown-topic-requires-3 c κs = let p = c .before .before .before .before .pre in (p .0, headed _ (p .3), value-of _ (p .3) TopicConfig (c .match .keys5) 1 refl refl .1)
+unknown-topic-requires-3 c κs = let p = c .before .before .before .before .pre in (p .0, headed _ (p .1), value-of _ (p .1) TopicConfig (c .match .keys5) 1 refl refl .1)
 
 producer-fault-requires : tie.Need-producer-fault-requires
 unfolding rowsOf shapeOf kindNumber
 producer-fault-requires c κs =
     let p = c .before .before .before .before .pre in
-    (p .0, headed _ (p .3), value-of _ (p .3) ProducerIds (c .match .keys8) 1 refl refl, value-of _ (p .3) ProducerIds (c .match .keys8) 3 refl refl)
+    (p .0, headed _ (p .1), value-of _ (p .1) ProducerIds (c .match .keys8) 1 refl refl, value-of _ (p .1) ProducerIds (c .match .keys8) 3 refl refl)
 
 at-epoch-requires : tie.Need-at-epoch-requires
 unfolding rowsOf shapeOf kindNumber
-at-epoch-requires c κs = let p = c .before .before .before .before .pre in (p .0, headed _ (p .3), value-of _ (p .3) UnregisterBroker (c .match .keys9) 1 refl refl)
+at-epoch-requires c κs = let p = c .before .before .before .before .pre in (p .0, headed _ (p .1), value-of _ (p .1) UnregisterBroker (c .match .keys9) 1 refl refl)
 
 unless-requires : tie.Need-unless-requires
 unless-requires c κs = search needs
 
 empty-scope-requires : tie.Need-empty-scope-requires
-empty-scope-requires c κs = headed _ (c .before .before .before .before .pre .3)
+empty-scope-requires c κs = headed _ (c .before .before .before .before .pre .1)
 
 unless-requires-2 : tie.Need-unless-requires-2
 unless-requires-2 c κs = search needs
@@ -55,146 +55,146 @@ proposal-fault-requires : tie.Need-proposal-fault-requires
 unfolding rowsOf shapeOf kindNumber
 proposal-fault-requires c κs =
     let p = c .before .before .before .before .pre in
-    let w = value-of _ (p .3) BreakGlassProposal (c .match .keys19) 1 refl refl in
-    (p .0, headed _ (p .3), omega (arith, w))
+    let w = value-of _ (p .1) BreakGlassProposal (c .match .keys19) 1 refl refl in
+    (p .0, headed _ (p .1), omega (arith, w))
 
 unknown-partition-requires : tie.Need-unknown-partition-requires
 unfolding rowsOf shapeOf kindNumber
 unknown-partition-requires c κs =
     let p = c .before .before .before .before .pre in
-    (p .0, headed _ (p .3), value-of _ (p .3) PartitionElr (c .match .keys21) 1 refl refl .1, value-of _ (p .3) PartitionElr (c .match .keys21) 2 refl refl)
+    (p .0, headed _ (p .1), value-of _ (p .1) PartitionElr (c .match .keys21) 1 refl refl .1, value-of _ (p .1) PartitionElr (c .match .keys21) 2 refl refl)
 
 unknown-partition-requires-2 : tie.Need-unknown-partition-requires-2
 unfolding rowsOf shapeOf kindNumber
 unknown-partition-requires-2 c κs =
     let p = c .before .before .before .before .pre in
-    (p .0, headed _ (p .3), value-of _ (p .3) PartitionRecovery (c .match .keys22) 1 refl refl .1, value-of _ (p .3) PartitionRecovery (c .match .keys22) 2 refl refl)
+    (p .0, headed _ (p .1), value-of _ (p .1) PartitionRecovery (c .match .keys22) 1 refl refl .1, value-of _ (p .1) PartitionRecovery (c .match .keys22) 2 refl refl)
 
 unknown-nested-requires : tie.Need-unknown-nested-requires
-unknown-nested-requires c κs = let p = c .before .before .before .before .pre in (p .0, headed _ (p .3), nested-logged _ (p .3) (c .match .keys23))
+unknown-nested-requires c κs = let p = c .before .before .before .before .pre in (p .0, headed _ (p .1), nested-logged _ (p .1) (c .match .keys23))
 
 at-epoch-requires-2 : tie.Need-at-epoch-requires-2
 unfolding rowsOf shapeOf kindNumber
-at-epoch-requires-2 c κs = let p = c .before .before .before .before .pre in (p .0, headed _ (p .3), value-of _ (p .3) BrokerRegistrationChange (c .match .keys24) 1 refl refl)
+at-epoch-requires-2 c κs = let p = c .before .before .before .before .pre in (p .0, headed _ (p .1), value-of _ (p .1) BrokerRegistrationChange (c .match .keys24) 1 refl refl)
 
 unless-requires-3 : tie.Need-unless-requires-3
 unless-requires-3 c κs = search needs
 
 unknown-controller-requires : tie.Need-unknown-controller-requires
 unfolding rowsOf shapeOf kindNumber
-unknown-controller-requires c κs = let p = c .before .before .before .before .pre in (p .0, headed _ (p .3), value-of _ (p .3) UnregisterController (c .match .keys25) 1 refl refl)
+unknown-controller-requires c κs = let p = c .before .before .before .before .pre in (p .0, headed _ (p .1), value-of _ (p .1) UnregisterController (c .match .keys25) 1 refl refl)
 
 returns : tie.Need-returns
 unfolding alone against kindNumber
-returns c = c .topic-exists .ensures ∙ judged _ (c .before .before .before .before .before .pre .3) Topic (c .before .match .keys1) _
+returns c = c .topic-exists .ensures ∙ judged _ (c .before .before .before .before .before .pre .1) Topic (c .before .match .keys1) _
 
 returns-2 : tie.Need-returns-2
 unfolding alone against kindNumber
-returns-2 c = c .unknown-topic .ensures ∙ judged _ (c .before .before .before .before .before .pre .3) Partition (c .before .match .keys2) _
+returns-2 c = c .unknown-topic .ensures ∙ judged _ (c .before .before .before .before .before .pre .1) Partition (c .before .match .keys2) _
 
 returns-3 : tie.Need-returns-3
 unfolding alone against kindNumber
-returns-3 c = judged _ (c .before .before .before .before .pre .3) BrokerRegistration (c .match .keys3) _
+returns-3 c = judged _ (c .before .before .before .before .pre .1) BrokerRegistration (c .match .keys3) _
 
 returns-4 : tie.Need-returns-4
 unfolding alone against kindNumber
-returns-4 c = c .unknown-topic2 .ensures ∙ judged _ (c .before .before .before .before .before .pre .3) DeleteTopic (c .before .match .keys4) _
+returns-4 c = c .unknown-topic2 .ensures ∙ judged _ (c .before .before .before .before .before .pre .1) DeleteTopic (c .before .match .keys4) _
 
 returns-5 : tie.Need-returns-5
 unfolding alone against kindNumber
-returns-5 c = c .unknown-topic3 .ensures ∙ judged _ (c .before .before .before .before .before .pre .3) TopicConfig (c .before .match .keys5) _
+returns-5 c = c .unknown-topic3 .ensures ∙ judged _ (c .before .before .before .before .before .pre .1) TopicConfig (c .before .match .keys5) _
 
 returns-6 : tie.Need-returns-6
 unfolding alone against kindNumber
-returns-6 c = judged _ (c .before .before .before .before .pre .3) BrokerConfig (c .match .keys6) _
+returns-6 c = judged _ (c .before .before .before .before .pre .1) BrokerConfig (c .match .keys6) _
 
 returns-7 : tie.Need-returns-7
 unfolding alone against kindNumber
-returns-7 c = judged _ (c .before .before .before .before .pre .3) ClientQuota (c .match .keys7) _
+returns-7 c = judged _ (c .before .before .before .before .pre .1) ClientQuota (c .match .keys7) _
 
 returns-8 : tie.Need-returns-8
 unfolding alone against kindNumber
-returns-8 c = c .producer-fault .ensures ∙ judged _ (c .before .before .before .before .before .pre .3) ProducerIds (c .before .match .keys8) _
+returns-8 c = c .producer-fault .ensures ∙ judged _ (c .before .before .before .before .before .pre .1) ProducerIds (c .before .match .keys8) _
 
 returns-9 : tie.Need-returns-9
 unfolding alone against kindNumber
 returns-9 c =
     c .unless .ensures ∙ ap (λ x. unless x 9) (c .before .at-epoch .ensures)
-    ∙ judged _ (c .before .before .before .before .before .before .pre .3) UnregisterBroker (c .before .before .match .keys9) _
+    ∙ judged _ (c .before .before .before .before .before .before .pre .1) UnregisterBroker (c .before .before .match .keys9) _
 
 returns-10 : tie.Need-returns-10
 unfolding alone against kindNumber
-returns-10 c = judged _ (c .before .before .before .before .pre .3) KRaftVersion (c .match .keys10) _
+returns-10 c = judged _ (c .before .before .before .before .pre .1) KRaftVersion (c .match .keys10) _
 
 returns-11 : tie.Need-returns-11
 unfolding alone against kindNumber
-returns-11 c = judged _ (c .before .before .before .before .pre .3) FeatureLevel (c .match .keys11) _
+returns-11 c = judged _ (c .before .before .before .before .pre .1) FeatureLevel (c .match .keys11) _
 
 returns-12 : tie.Need-returns-12
 unfolding alone against kindNumber
-returns-12 c = judged _ (c .before .before .before .before .pre .3) ClientMetricsConfig (c .match .keys12) _
+returns-12 c = judged _ (c .before .before .before .before .pre .1) ClientMetricsConfig (c .match .keys12) _
 
 returns-13 : tie.Need-returns-13
 unfolding alone against kindNumber
-returns-13 c = judged _ (c .before .before .before .before .pre .3) FeaturesEpoch (c .match .keys13) _
+returns-13 c = judged _ (c .before .before .before .before .pre .1) FeaturesEpoch (c .match .keys13) _
 
 returns-14 : tie.Need-returns-14
 unfolding alone against kindNumber
-returns-14 c = judged _ (c .before .before .before .before .pre .3) PartitionDirAssignment (c .match .keys14) _
+returns-14 c = judged _ (c .before .before .before .before .pre .1) PartitionDirAssignment (c .match .keys14) _
 
 returns-15 : tie.Need-returns-15
 unfolding alone against kindNumber
-returns-15 c = judged _ (c .before .before .before .before .pre .3) PartitionOffsetAdvance (c .match .keys15) _
+returns-15 c = judged _ (c .before .before .before .before .pre .1) PartitionOffsetAdvance (c .match .keys15) _
 
 returns-16 : tie.Need-returns-16
 unfolding alone against kindNumber
-returns-16 c = judged _ (c .before .before .before .before .pre .3) GroupConfig (c .match .keys16) _
+returns-16 c = judged _ (c .before .before .before .before .pre .1) GroupConfig (c .match .keys16) _
 
 returns-17 : tie.Need-returns-17
 unfolding alone against kindNumber
-returns-17 c = judged _ (c .before .before .before .before .pre .3) ControllerRegistration (c .match .keys17) _
+returns-17 c = judged _ (c .before .before .before .before .pre .1) ControllerRegistration (c .match .keys17) _
 
 returns-18 : tie.Need-returns-18
 unfolding alone against kindNumber emptyScope
 returns-18 c =
     c .unless2 .ensures ∙ ap (λ x. unless (not x) 13) (c .before .empty-scope .ensures)
-    ∙ judged-alone _ (c .before .before .before .before .before .before .pre .3) TopicFreeze (c .before .before .match .keys18) _ refl
+    ∙ judged-alone _ (c .before .before .before .before .before .before .pre .1) TopicFreeze (c .before .before .match .keys18) _ refl
 
 returns-19 : tie.Need-returns-19
 unfolding alone against kindNumber
-returns-19 c = c .proposal-fault .ensures ∙ judged _ (c .before .before .before .before .before .pre .3) BreakGlassProposal (c .before .match .keys19) _
+returns-19 c = c .proposal-fault .ensures ∙ judged _ (c .before .before .before .before .before .pre .1) BreakGlassProposal (c .before .match .keys19) _
 
 returns-20 : tie.Need-returns-20
 unfolding alone against kindNumber
-returns-20 c = judged _ (c .before .before .before .before .pre .3) DeleteBreakGlassProposal (c .match .keys20) _
+returns-20 c = judged _ (c .before .before .before .before .pre .1) DeleteBreakGlassProposal (c .match .keys20) _
 
 returns-21 : tie.Need-returns-21
 unfolding alone against kindNumber
-returns-21 c = c .unknown-partition .ensures ∙ judged _ (c .before .before .before .before .before .pre .3) PartitionElr (c .before .match .keys21) _
+returns-21 c = c .unknown-partition .ensures ∙ judged _ (c .before .before .before .before .before .pre .1) PartitionElr (c .before .match .keys21) _
 
 returns-22 : tie.Need-returns-22
 unfolding alone against kindNumber
-returns-22 c = c .unknown-partition2 .ensures ∙ judged _ (c .before .before .before .before .before .pre .3) PartitionRecovery (c .before .match .keys22) _
+returns-22 c = c .unknown-partition2 .ensures ∙ judged _ (c .before .before .before .before .before .pre .1) PartitionRecovery (c .before .match .keys22) _
 
 returns-23 : tie.Need-returns-23
 unfolding alone against kindNumber
-returns-23 c = c .unknown-nested .ensures ∙ judged _ (c .before .before .before .before .before .pre .3) PartitionUpdate (c .before .match .keys23) _
+returns-23 c = c .unknown-nested .ensures ∙ judged _ (c .before .before .before .before .before .pre .1) PartitionUpdate (c .before .match .keys23) _
 
 returns-24 : tie.Need-returns-24
 unfolding alone against kindNumber
 returns-24 c =
     c .unless3 .ensures ∙ ap (λ x. unless x 8) (c .before .at-epoch2 .ensures)
-    ∙ judged _ (c .before .before .before .before .before .before .pre .3) BrokerRegistrationChange (c .before .before .match .keys24) _
+    ∙ judged _ (c .before .before .before .before .before .before .pre .1) BrokerRegistrationChange (c .before .before .match .keys24) _
 
 returns-25 : tie.Need-returns-25
 unfolding alone against kindNumber
-returns-25 c = c .unknown-controller .ensures ∙ judged _ (c .before .before .before .before .before .pre .3) UnregisterController (c .before .match .keys25) _
+returns-25 c = c .unknown-controller .ensures ∙ judged _ (c .before .before .before .before .before .pre .1) UnregisterController (c .before .match .keys25) _
 
 returns-26 : tie.Need-returns-26
-returns-26 c = kind-zero _ (c .before .before .before .before .pre .3) (c .match .keys26)
+returns-26 c = kind-zero _ (c .before .before .before .before .pre .1) (c .match .keys26)
 
 returns-27 : tie.Need-returns-27
-returns-27 c = kind-past _ (c .before .before .before .before .pre .3) (no-kind _ _ (c .match .rest))
+returns-27 c = kind-past _ (c .before .before .before .before .pre .1) (no-kind _ _ (c .match .rest))
 
 pub judge-spec : {M : Type 1} → statement M
 judge-spec =

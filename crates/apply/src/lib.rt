@@ -1,0 +1,49 @@
+// Apply: what a record makes of an image, or a refusal that changes nothing.
+mod step;
+
+use header::NO_IMAGE;
+use image::is_image;
+use lay::lay;
+use records::Answer;
+use records::read;
+use step::Tried;
+use step::try_in;
+ghost use mathlib.Core.Path.{_≡_};
+ghost use mathlib.Core.Bool.{true};
+ghost use lib.ListN.{length};
+ghost use Rattle.model.specs.Image.{isImage, contentsOf};
+ghost use Rattle.model.specs.Apply.{apply as applied, laid, applyOf};
+ghost use Rattle.header.specs.Header.{numbered};
+ghost use Rattle.judge.specs.Judge.{IsLogged, loggedIn};
+
+// Applies a record that Read accepts to an image.
+fn apply_record(image: &mut [u8], rec: &[u8]) -> u8
+    requires { ⌜ (isImage (now image) ≡ true) × IsLogged (now rec) ⌝ }
+    ensures { λ r. ⌜ numbered r ≡ laid (now (image .entry)) (applied (length (now (image .entry))) (loggedIn (now (rec .entry))) (contentsOf (now (image .entry)))) .reply ⌝ }
+    ensures { λ _. ⌜ now (image .exit) ≡ laid (now (image .entry)) (applied (length (now (image .entry))) (loggedIn (now (rec .entry))) (contentsOf (now (image .entry)))) .buffer ⌝ }
+{
+    let mut w = [0; 167936];
+    let mut a = [0; 40960];
+    let mut b = [0; 40960];
+    match try_in(&mut w, &mut a, &mut b, image, rec) {
+        Tried::Refused(number) => number,
+        Tried::Moved(s) => {
+            lay(image, &w, s.room, s.epoch, s.kraft);
+            0
+        }
+    }
+}
+
+// Applies the record at the start of `input` to an image. 0, or the number of a refusal, which changes nothing. Later bytes are not looked at.
+pub fn apply(image: &mut [u8], input: &[u8]) -> u8
+    ensures { λ r. ⌜ numbered r ≡ applyOf (now (image .entry)) (now (input .entry)) .reply ⌝ }
+    ensures { λ _. ⌜ now (image .exit) ≡ applyOf (now (image .entry)) (now (input .entry)) .buffer ⌝ }
+{
+    if !is_image(image) {
+        return NO_IMAGE;
+    }
+    match read(input) {
+        Answer::Refused(number) => number,
+        Answer::Used(n) => apply_record(image, &input[..n]),
+    }
+}

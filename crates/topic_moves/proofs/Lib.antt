@@ -1,0 +1,2 @@
+pub mod Olds
+pub mod Moved

@@ -1,0 +1,84 @@
+-- A record that is built a field at a time: what is asked before a field is set, and what stands then. Parts of a slice as they are lent.
+use mathlib.Core.Path.{_≡_, ap, _∙_}
+use Prim.Native.Nat.{ℕ, _+_, _-_, _≤_, _<_}
+use native.Mathlib.Omega.{arith}
+use lib.ListN.{length, take, drop}
+use lib.Seq.{slice}
+use Rattle.model.specs.Number.{Bytes}
+use Rattle.model.specs.Run.{Run, done, runOf, field, value, setField}
+use Rattle.laws_records.specs.Runs.{Whole, Short}
+use Rattle.laws_records.specs.Fields.{set-whole}
+use Rattle.fields.specs.Fields.{held, Within}
+use Rattle.fields.specs.declared.Found.{Found}
+use Rattle.fields.specs.declared.Found.the-variants.{Part, Missing}
+use Rattle.keys.specs.Keys.{kindIn, runIn}
+use Rattle.keys.proofs.Found.{lent-slice, value-part, value-missing, within-part}
+use Rattle.drafts.specs.Drafts.{spells, IsDraft}
+use Rattle.drafts.proofs.Drafts.{held-draft, set-held, set-short}
+use Rattle.updates.specs.Updates.{partitionOf}
+
+-- 1. Parts
+
+-- a value that stands in a slice
+abbrev pub Stands : Bytes → Bytes → ℕ → ℕ → Type 0
+Stands s v start end = (slice start end s ≡ v) × (start ≤ end) × (end ≤ length s)
+
+pub lent : (s v : Bytes) (start end : ℕ) → Stands s v start end → take (end - start) (drop start s) ≡ v
+lent s v start end h = lent-slice s start end (h .1) ∙ h .0
+
+-- a field of a partition, found in the run that an update's first field is
+inner : (s : Bytes) (start end tag : ℕ) → Stands s (value 1 (runIn s)) start end
+    → value tag (runOf (slice start end s)) ≡ value tag (partitionOf (runIn s))
+inner s start end tag h = ap (λ v. value tag (runOf v)) (h .0)
+
+module _ (s : Bytes) (start end : ℕ) (h : Stands s (value 1 (runIn s)) start end) (tag : ℕ) {r : Found}
+    (f : (held s r ≡ field tag (runOf (slice start end s))) × Within end r) where
+  pub nested-part : {at len : ℕ} → r ≡ Part at len → Stands s (value tag (partitionOf (runIn s))) at (at + len)
+  nested-part {at} {len} p =
+      (value-part s tag (runOf (slice start end s)) (f .0) p ∙ inner s start end tag h, omega arith, omega (arith, within-part p (f .1), h .2))
+
+  pub nested-none : r ≡ Missing → Stands s (value tag (partitionOf (runIn s))) 0 0
+  nested-none p = (value-missing s tag (runOf (slice start end s)) (f .0) p ∙ inner s start end tag h, omega arith, omega arith)
+
+-- 2. Fields that are set
+
+-- a buffer whose first bytes spell a record, of a length up to a bound
+pub record Drafted (b : Bytes) (n kind : ℕ) (run : Run) (most : ℕ) : Type 0 where
+  pub spelt : take n b ≡ spells kind run
+  pub whole : Whole run
+  pub short : Short run
+  pub few : n ≤ most
+
+pub begun : (b : Bytes) (n kind : ℕ) → (n ≡ 3) × (take n b ≡ spells kind done) → Drafted b n kind done 3
+begun b n kind h = record { spelt = h .1; whole = tt; short = tt; few = omega (arith, h .0) }
+
+module _ {b : Bytes} {n kind : ℕ} {run : Run} {most : ℕ} (d : Drafted b n kind run most) {v w : Bytes} (e : w ≡ v) (limit : ℕ) (low : length v ≤ limit) where
+  -- the value is lent as it stands elsewhere
+  pub step-asks : limit < 65536 → most + 3 + limit ≤ length b
+      → (n + 3 + length w ≤ length b) × (length w < 65536) × IsDraft (take n b)
+  step-asks small fits =
+      let same : length w ≡ length v = ap length e in
+      (omega (arith, d .few), omega arith, held-draft b n kind run (d .spelt) (d .whole) (d .short))
+
+  pub step-says : limit < 65536 → (tag : ℕ) (c : Bytes) (r : ℕ)
+      → (take r c ≡ spells (kindIn b) (setField tag w (runIn (take n b)))) × (r ≤ n + 3 + length w)
+      → Drafted c r kind (setField tag v run) (most + 3 + limit)
+  step-says small tag c r h =
+      let same : length w ≡ length v = ap length e in
+      record {
+        spelt = set-held b n kind run (d .spelt) (d .whole) (d .short) tag w (h .0) ∙ ap (λ x. spells kind (setField tag x run)) e;
+        whole = set-whole tag v run (d .whole);
+        short = set-short tag v run (omega arith) (d .short);
+        few = omega (arith, h .1, d .few);
+      }
+
+-- the same by a value that is copied from its part
+module _ (s v : Bytes) (start end : ℕ) (h : Stands s v start end) (b : Bytes) (n : ℕ) where
+  pub copy-asks : (n + 3 + length v ≤ length b) × (length v < 65536) × IsDraft (take n b)
+      → (n + 3 + length (take (end - start) (drop start s)) ≤ length b) × (length (take (end - start) (drop start s)) < 65536) × IsDraft (take n b)
+  copy-asks p = rw (lent s v start end h) p
+
+  pub copy-says : (kind tag : ℕ) (run : Run) {x : Bytes} {r : ℕ}
+      → (x ≡ spells kind (setField tag (take (end - start) (drop start s)) run)) × (r ≤ n + 3 + length (take (end - start) (drop start s)))
+      → (x ≡ spells kind (setField tag v run)) × (r ≤ n + 3 + length v)
+  copy-says kind tag run q = rw (lent s v start end h) at q
