@@ -1,4 +1,4 @@
-// Open, the exact test, Validate and the lookups for programs in other languages.
+// Open, the exact test, Validate, Apply and the lookups for programs in other languages.
 use crate::pack;
 use lookup::Value;
 use model::NodeId;
@@ -6,6 +6,7 @@ use wire::wide;
 ghost use mathlib.Core.Path.{_≡_};
 ghost use mathlib.Core.Bool.{cond};
 ghost use Prim.Native.Nat.{_*_};
+ghost use Rattle.model.specs.Apply.{applyOf};
 ghost use Rattle.model.specs.Image.{isImage, openOf};
 ghost use Rattle.model.specs.Lookup.{topicByName, topicById, partitionOf, brokerOf, epochOf, shortOf};
 ghost use Rattle.model.specs.Validate.{validateOf};
@@ -38,6 +39,15 @@ pub extern "C" fn jeghatuf_validate(image: &[u8], input: &[u8]) -> u64
     ensures { λ r. ⌜ r ≡ packed (validateOf (now (image .entry)) (now (input .entry))) ⌝ }
 {
     wide(validate::validate(image, input)) * 0x1_0000_0000
+}
+
+// Applies the record at the start of `input` to an image.
+#[no_mangle]
+pub extern "C" fn jeghatuf_apply(image: &mut [u8], input: &[u8]) -> u64
+    ensures { λ r. ⌜ r ≡ packed (applyOf (now (image .entry)) (now (input .entry)) .reply) ⌝ }
+    ensures { λ _. ⌜ now (image .exit) ≡ applyOf (now (image .entry)) (now (input .entry)) .buffer ⌝ }
+{
+    wide(apply::apply(image, input)) * 0x1_0000_0000
 }
 
 // The topic of a name, as its record: the bytes written.
