@@ -14,9 +14,11 @@ mod verdicts;
 
 pub use buffers::compare_random;
 pub use cases::compare_cases;
+pub(crate) use exact::shown;
 pub use full::Full;
 pub use history::compare_history;
 pub use open::compare_open;
+pub(crate) use subject::knobs;
 pub use tally::Tally;
 
 /// Nothing, or the first difference in words.

@@ -3,6 +3,8 @@
 
 mod entry;
 #[cfg(feature = "images")]
+pub mod histories;
+#[cfg(feature = "images")]
 pub mod images;
 mod inputs;
 mod random;

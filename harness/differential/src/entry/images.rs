@@ -1,4 +1,5 @@
-//! The entry points of images: Open, the exact test and the lookups.
+//! The entry points of images: Open, the exact test, Validate, Apply and the
+//! lookups.
 
 use super::unpacked;
 
@@ -11,6 +12,7 @@ unsafe extern "C" {
         input: *const u8,
         input_len: usize,
     ) -> u64;
+    fn jeghatuf_apply(image: *mut u8, image_len: usize, input: *const u8, input_len: usize) -> u64;
     fn jeghatuf_topic(
         image: *const u8,
         image_len: usize,
@@ -66,9 +68,21 @@ pub fn is_image(buffer: &[u8]) -> u64 {
 /// Validate's number of the record at the start of the input.
 pub fn validate(image: &[u8], input: &[u8]) -> u8 {
     // SAFETY: each pointer and length are a slice's.
-    let answer = unsafe {
-        jeghatuf_validate(image.as_ptr(), image.len(), input.as_ptr(), input.len())
-    };
+    let answer =
+        unsafe { jeghatuf_validate(image.as_ptr(), image.len(), input.as_ptr(), input.len()) };
+    number(answer)
+}
+
+/// Applies the record at the start of the input, where the number is 0.
+pub fn apply(image: &mut [u8], input: &[u8]) -> u8 {
+    // SAFETY: each pointer and length are a slice's, and `image` is borrowed alone.
+    let answer =
+        unsafe { jeghatuf_apply(image.as_mut_ptr(), image.len(), input.as_ptr(), input.len()) };
+    number(answer)
+}
+
+/// The number of an answer that has no value.
+fn number(answer: u64) -> u8 {
     match unpacked(answer) {
         Ok(_) => 0,
         Err(number) => number,
@@ -94,13 +108,7 @@ pub fn topic(image: &[u8], name: &[u8], out: &mut [u8]) -> Result<usize, u8> {
 pub fn topic_by_id(image: &[u8], id: &[u8; 16], out: &mut [u8]) -> Result<usize, u8> {
     // SAFETY: each pointer and length are a slice's, and `out` is borrowed alone.
     unpacked(unsafe {
-        jeghatuf_topic_by_id(
-            image.as_ptr(),
-            image.len(),
-            id,
-            out.as_mut_ptr(),
-            out.len(),
-        )
+        jeghatuf_topic_by_id(image.as_ptr(), image.len(), id, out.as_mut_ptr(), out.len())
     })
 }
 

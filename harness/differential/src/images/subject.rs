@@ -42,7 +42,7 @@ impl Subject {
 
 /// Histories of several kinds: validated, not validated, within demand 3's
 /// premises, and each with few or many values at the limits.
-fn knobs(seed: u64) -> Knobs {
+pub fn knobs(seed: u64) -> Knobs {
     Knobs {
         extreme: [0, 0, 1, 4][(seed / 3 % 4) as usize],
         validated: !seed.is_multiple_of(3),

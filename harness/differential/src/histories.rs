@@ -1,0 +1,84 @@
+//! Compares Validate and Apply with the reference, step by step along whole
+//! histories. A step is held to the number and to every byte of the buffer.
+
+mod course;
+mod drawn;
+mod no_image;
+mod reference;
+mod short;
+
+pub use drawn::compare_drawn;
+pub use no_image::compare_no_image;
+pub use short::compare_short;
+
+use course::Course;
+
+use crate::images::{Compared, Tally};
+
+/// What is given to a buffer after Open, one after the other.
+struct History {
+    capacity: usize,
+    /// Whether a record that Validate refuses is kept from Apply. Apply does
+    /// not validate, so it has an answer to such a record too.
+    validated: bool,
+    inputs: Vec<Vec<u8>>,
+}
+
+impl History {
+    /// Compares all steps. A difference comes with the fewest of the inputs
+    /// that show one.
+    fn compare(&self, tally: &mut Tally) -> Result<Course, String> {
+        self.run(tally)
+            .map_err(|difference| self.smallest(difference))
+    }
+
+    fn run(&self, tally: &mut Tally) -> Result<Course, String> {
+        let mut course = Course::open(tally, self.capacity)?;
+        for input in &self.inputs {
+            course.take(tally, input, self.validated)?;
+        }
+        Ok(course)
+    }
+
+    /// Leaves inputs out as long as there is a difference.
+    fn smallest(&self, difference: String) -> String {
+        let (mut inputs, mut difference) = (self.inputs.clone(), difference);
+        let mut place = 0;
+        while place < inputs.len() {
+            let mut fewer = inputs.clone();
+            fewer.remove(place);
+            match self.with(fewer.clone()).run(&mut Tally::default()) {
+                Ok(_) => place += 1,
+                Err(other) => (inputs, difference) = (fewer, other),
+            }
+        }
+        let inputs: Vec<String> = inputs.iter().map(|input| told(input)).collect();
+        let (capacity, validated) = (self.capacity, self.validated);
+        format!(
+            "{difference}\nat capacity {capacity}, validated: {validated}, after these:\n{}",
+            inputs.concat()
+        )
+    }
+
+    fn with(&self, inputs: Vec<Vec<u8>>) -> Self {
+        Self { inputs, ..*self }
+    }
+}
+
+/// An input in hex, and its record or why it has none.
+fn told(input: &[u8]) -> String {
+    let hex: String = input.iter().map(|byte| format!("{byte:02x}")).collect();
+    match wire::decode(input) {
+        Ok((record, _)) => format!("  {hex}\n    {record:?}\n"),
+        Err(number) => format!("  {hex}\n    no record: {number}\n"),
+    }
+}
+
+/// The numbers agree, or the difference in words.
+fn expect(tally: &mut Tally, what: &'static str, number: u8, expected: u8) -> Compared {
+    tally.count(what, number);
+    match number == expected {
+        true => Ok(()),
+        false => Err(format!("{what} says {number}, expected is {expected}")),
+    }
+}

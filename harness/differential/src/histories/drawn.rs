@@ -1,0 +1,103 @@
+//! Histories drawn from a seed.
+
+use krabka_metadata::{MetadataImage, MetadataRecord};
+use oracle::generate::Generator;
+use oracle::image::{FIXED_ROOM, MOST_CAPACITY, weight};
+use wire::{damaged, encode};
+
+use super::History;
+use super::no_image::compare_near;
+use super::reference::Reference;
+use crate::images::{Compared, Tally, knobs};
+use crate::random::Random;
+
+/// A history draws at most so many records.
+const STEPS: usize = 60;
+/// A record in so many is followed by damaged copies of it.
+const DAMAGED: usize = 6;
+/// An offset in so many goes to an end of i64, or just beyond.
+const TO_AN_END: usize = 4;
+
+/// Compares the history of a seed at several capacities.
+pub fn compare_drawn(tally: &mut Tally, seed: u64) -> Compared {
+    let mut random = Random::new(seed);
+    let drawn = Drawn::of(&mut random, seed);
+    for capacity in capacities(&mut random, drawn.reached) {
+        let history = History {
+            capacity,
+            validated: drawn.validated,
+            inputs: drawn.inputs.clone(),
+        };
+        let course = history.compare(tally)?;
+        compare_near(tally, &mut random, &course, &history.inputs)?;
+    }
+    Ok(())
+}
+
+/// All room; as much as the history needs, and one byte less; and any amount
+/// below that, where room runs out often.
+fn capacities(random: &mut Random, reached: usize) -> [usize; 4] {
+    let below = FIXED_ROOM + random.below(reached - FIXED_ROOM + 1);
+    [MOST_CAPACITY, reached, reached - 1, below]
+        .map(|capacity| capacity.clamp(FIXED_ROOM, MOST_CAPACITY))
+}
+
+struct Drawn {
+    validated: bool,
+    inputs: Vec<Vec<u8>>,
+    /// The greatest weight on the way, by the reference alone.
+    reached: usize,
+}
+
+impl Drawn {
+    fn of(random: &mut Random, seed: u64) -> Self {
+        let knobs = knobs(seed);
+        let mut generator = Generator::new(seed, knobs);
+        let mut reference = Reference::new();
+        let mut drawn = Self {
+            validated: knobs.validated,
+            inputs: Vec::new(),
+            reached: FIXED_ROOM,
+        };
+        for _ in 0..=random.below(STEPS) {
+            let mut record = generator.record(&reference.image);
+            to_an_end(random, &reference.image, &mut record);
+            for input in inputs(random, &record) {
+                reference.take(&input, drawn.validated);
+                drawn.inputs.push(input);
+                let weight = weight(&reference.observed());
+                drawn.reached = drawn.reached.max(weight);
+            }
+        }
+        drawn
+    }
+}
+
+/// Turns some offset advances into ones whose sum is the last that i64 has, or
+/// the first that it has not. The generator seldom draws them.
+fn to_an_end(random: &mut Random, image: &MetadataImage, record: &mut MetadataRecord) {
+    let MetadataRecord::V1PartitionOffsetAdvance(advance) = record else {
+        return;
+    };
+    if random.below(TO_AN_END) == 0 {
+        let offset = image.partition_next_offset(&advance.topic, advance.partition);
+        let end = [i64::MAX, i64::MIN][random.below(2)];
+        let beyond = end.signum() * random.below(2) as i64;
+        let count = end.wrapping_sub(offset.unwrap_or(0));
+        advance.count = count.wrapping_add(beyond);
+    }
+}
+
+/// A record, and for some of them copies: cut, with one byte changed, and with
+/// any damage. Some of these are records too.
+fn inputs(random: &mut Random, record: &MetadataRecord) -> Vec<Vec<u8>> {
+    let bytes = encode(record).expect("a kind that 01 has");
+    if random.below(DAMAGED) != 0 {
+        return vec![bytes];
+    }
+    let cut = bytes[..random.below(bytes.len())].to_vec();
+    let mut changed = bytes.clone();
+    changed[random.below(bytes.len())] = random.next() as u8;
+    let any = damaged(&mut || random.next(), &bytes);
+    vec![bytes, cut, changed, any]
+}

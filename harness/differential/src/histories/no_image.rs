@@ -1,0 +1,87 @@
+//! Validate and Apply on buffers that are no image: 1, and nothing changes,
+//! whatever the input is.
+
+use oracle::cases::cases;
+use oracle::exact::is_image;
+use oracle::facts::build::{delete_topic, feature_level, topic};
+use wire::encode;
+
+use super::course::Course;
+use super::{expect, told};
+use crate::images::{Compared, Tally, shown};
+use crate::random::Random;
+use crate::{apply, validate};
+
+/// The buffer is no image.
+const NO_IMAGE: u8 = 1;
+/// How often a byte of an image is changed.
+const DRAWS: usize = 6;
+
+/// The cases with known answers that are no images.
+pub fn compare_no_image(tally: &mut Tally) -> Compared {
+    for case in cases().iter().filter(|case| !case.is_image) {
+        for input in inputs() {
+            compare(tally, &case.bytes, &input)
+                .map_err(|difference| format!("{:?}: {difference}", case.name))?;
+        }
+    }
+    Ok(())
+}
+
+/// Records, and bytes that are none: they too get 1, which comes first.
+fn inputs() -> [Vec<u8>; 5] {
+    let bytes = |record| encode(&record).expect("a kind that 01 has");
+    [
+        bytes(topic("p", 1, 0, 1)),
+        bytes(delete_topic("p")),
+        bytes(feature_level("a", 1)),
+        Vec::new(),
+        vec![26, 0, 0],
+    ]
+}
+
+/// The image that a history leaves, with a byte changed so that it is none.
+pub fn compare_near(
+    tally: &mut Tally,
+    random: &mut Random,
+    course: &Course,
+    inputs: &[Vec<u8>],
+) -> Compared {
+    for _ in 0..DRAWS {
+        let mut buffer = course.buffer.clone();
+        let place = place(random, &buffer);
+        buffer[place] ^= 1 << random.below(8);
+        if !is_image(&buffer) {
+            compare(tally, &buffer, &inputs[random.below(inputs.len())])?;
+        }
+    }
+    Ok(())
+}
+
+/// Mostly in the used part: a byte changed after it is never an image.
+fn place(random: &mut Random, image: &[u8]) -> usize {
+    let used = u32::from_be_bytes(image[8..12].try_into().expect("four bytes"));
+    match random.below(4) {
+        0 => random.below(image.len()),
+        _ => random.below(used as usize),
+    }
+}
+
+fn compare(tally: &mut Tally, bytes: &[u8], input: &[u8]) -> Compared {
+    compare_numbers(tally, bytes, input).map_err(|difference| {
+        let (bytes, input) = (shown(bytes), told(input));
+        format!("{difference}\nto {bytes}\nthat is no image, of this:\n{input}")
+    })
+}
+
+fn compare_numbers(tally: &mut Tally, bytes: &[u8], input: &[u8]) -> Compared {
+    let mut buffer = bytes.to_vec();
+    let number = validate(&buffer, input);
+    expect(tally, "Validate, no image", number, NO_IMAGE)?;
+    let number = apply(&mut buffer, input);
+    expect(tally, "Apply, no image", number, NO_IMAGE)?;
+    match buffer == bytes {
+        true => Ok(()),
+        false => Err(format!("Apply leaves {}", shown(&buffer))),
+    }
+}
