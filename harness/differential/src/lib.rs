@@ -8,6 +8,7 @@ pub mod histories;
 pub mod images;
 mod inputs;
 mod random;
+pub mod timing;
 mod typical;
 
 pub use entry::*;
