@@ -1,3 +1,4 @@
 pub mod Light
 pub mod Stepping
 pub mod Applying
+pub mod Restoring

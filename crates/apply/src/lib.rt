@@ -1,4 +1,5 @@
-// Apply: what a record makes of an image, or a refusal that changes nothing.
+// Apply: what a record makes of an image, or a refusal that changes nothing. And Restore, which makes the image of records from nothing.
+mod restores;
 mod step;
 
 use header::NO_IMAGE;
@@ -6,6 +7,8 @@ use image::is_image;
 use lay::lay;
 use records::Answer;
 use records::read;
+pub use restores::Restored;
+pub use restores::restore;
 use step::Tried;
 use step::try_in;
 ghost use mathlib.Core.Path.{_≡_};

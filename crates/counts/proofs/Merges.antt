@@ -108,7 +108,7 @@ module _ {s : Bytes} {at from start end : ℕ} {next : Cursor} (h : Merged s at 
         subst (λ x. Counted x (value 1 (t .entry .entry .run)) n to) (rest-lent s from (h .far))
         (subst (λ x. Counted (take (length s - from) (drop from s)) (value 1 x) n to) (run-here t) c)
 
-    number-is : n ≡ count recordKey (ofTopic (value 1 (t .entry .entry .run))) (recordsIn s)
+    pub number-is : n ≡ count recordKey (ofTopic (value 1 (t .entry .entry .run))) (recordsIn s)
     number-is = counted .number ∙ ahead-all .0 topic
 
     pub to-fits : from + to ≤ length s

@@ -99,7 +99,7 @@ module _ (name : Bytes) where
       go Ordering·eq h = below-keeps name other (keyName k) l h
       go Ordering·gt h = absurd (h refl)
 
-  of-beside : (k : Key) → ofTopic name k ≡ isSame (besideTopic name k)
+  pub of-beside : (k : Key) → ofTopic name k ≡ isSame (besideTopic name k)
   unfolding besideTopic ofTopic sameBytes
   of-beside k = go (compare (keyRank k) (rank Partition)) refl
     where

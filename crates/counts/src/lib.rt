@@ -19,7 +19,7 @@ ghost use Rattle.entries.specs.Entries.{recordsIn, Entries};
 ghost use Rattle.counts.specs.Counts.{countFits, besideTopic, Counted};
 
 // How an entry stands to the partitions of a topic: before them, among them or after them. Partitions have the rank 5.
-fn beside(e: &[u8], name: &[u8]) -> Order
+pub fn beside(e: &[u8], name: &[u8]) -> Order
     requires { ⌜ Keyed (now e) ⌝ }
     ensures { λ r. ⌜ ordering r ≡ besideTopic (now (name .entry)) (keyIn (now (e .entry))) ⌝ }
 {

@@ -2,16 +2,22 @@
 use mathlib.Core.Path.{_≡_, refl, sym, ap, _∙_}
 use mathlib.Core.Bool.{Bool, true, false, cond}
 use mathlib.Core.List.{List, [], _∷_}
-use Prim.Native.Nat.{ℕ, _*_, _≤_, _<_}
+use Prim.Native.Nat.{ℕ, _+_, _*_, _≤_, _<_}
 use native.Mathlib.Omega.{arith}
 use lib.ListN.{length, set}
 use Rattle.model.specs.Reply.{Reply}
 use Rattle.header.specs.Header.{numbered}
-use Rattle.lookup.specs.Values.{valued}
+use Rattle.lookup.specs.Values.{valued, rating}
 use Rattle.lookup.specs.declared.Value.{Value}
 use Rattle.lookup.specs.declared.Value.the-variants.{Is, Refused}
+use Rattle.lookup.specs.declared.Rated.{Rated}
+use Rattle.lookup.specs.declared.Rated.the-variants as rated
+use Rattle.lookup.specs.declared.Rated.the-variants.{Rate, None}
+use Rattle.apply.specs.Restore.{restored}
+use Rattle.apply.specs.declared.restores.Restored.{Restored}
+use Rattle.apply.specs.declared.restores.Restored.the-variants as end
 use Rattle.exports.specs.Exports.{packed}
-use Rattle.exports.specs.Images.{widened}
+use Rattle.exports.specs.Images.{firstIs, counted, widened}
 
 -- a number alone
 pub packed-number : {n w : ℕ} {r : Reply} → w ≡ n → numbered n ≡ r → w * 4294967296 ≡ packed r
@@ -19,6 +25,15 @@ packed-number {n} {w} e q = let k : w * 4294967296 ≡ packed (numbered n) = ome
 
 pub one-zero : {a b : Bool} (x : Bool) → a ≡ b → a ≡ x → _≡_ {A = ℕ} (cond x 1 0) (cond b 1 0)
 one-zero x e h = ap {B = ℕ} (λ t. cond t 1 0) (sym h ∙ e)
+
+-- a value into the first place of a list, and where there is no place
+set-first : (n : ℕ) (l : List ℕ) → 0 < length l → set l 0 n ≡ firstIs (n ∷ []) l
+set-first n [] q = absurd (omega arith)
+set-first n (x ∷ l) q = refl
+
+no-first : (n : ℕ) (l : List ℕ) → length l ≤ 0 → l ≡ firstIs (n ∷ []) l
+no-first n [] q = refl
+no-first n (x ∷ l) q = absurd (omega arith)
 
 -- a value, or a refusal's number
 module _ {v : Value} {r : Reply} (e : valued v ≡ r) where
@@ -33,18 +48,46 @@ module _ {v : Value} {r : Reply} (e : valued v ≡ r) where
   is-value h = ap valued (sym h) ∙ e
 
   pub wide-value : {n : ℕ} → v ≡ Is n → (l : List ℕ) → 0 < length l → (0 ≡ r .number * 4294967296) × (set l 0 n ≡ widened r l)
-  wide-value {n} h l q = rw (← is-value h) (refl, first n l q)
-    where
-      first : (n : ℕ) (l : List ℕ) → 0 < length l → set l 0 n ≡ widened (valued (Is n)) l
-      first n [] q = absurd (omega arith)
-      first n (x ∷ l) q = refl
+  wide-value {n} h l q = rw (← is-value h) (refl, set-first n l q)
 
   pub wide-nowhere : {n : ℕ} → v ≡ Is n → (l : List ℕ) → length l ≤ 0 → (0 ≡ r .number * 4294967296) × (l ≡ widened r l)
-  wide-nowhere {n} h l q = rw (← is-value h) (refl, none-there n l q)
-    where
-      none-there : (n : ℕ) (l : List ℕ) → length l ≤ 0 → l ≡ widened (valued (Is n)) l
-      none-there n [] q = refl
-      none-there n (x ∷ l) q = absurd (omega arith)
+  wide-nowhere {n} h l q = rw (← is-value h) (refl, no-first n l q)
 
   pub wide-refused : {n w : ℕ} → v ≡ Refused n → w ≡ n → (l : List ℕ) → (w * 4294967296 ≡ r .number * 4294967296) × (l ≡ widened r l)
   wide-refused {n} {w} h q l = rw (← (ap valued (sym h) ∙ e)) (ap (λ x. x * 4294967296) q, refl)
+
+-- a wide value that may be none
+module _ {v : Rated} {r : Reply} (e : rating v ≡ r) where
+  rated-as : (w : Rated) → v ≡ w → rating w ≡ r
+  rated-as w h = ap rating (sym h) ∙ e
+
+  pub rate-value : {n : ℕ} → v ≡ Rate n → (l : List ℕ) → 0 < length l → (1 ≡ counted r) × (set l 0 n ≡ widened r l)
+  rate-value {n} h l q = rw (← rated-as (Rate n) h) (refl, set-first n l q)
+
+  pub rate-nowhere : {n : ℕ} → v ≡ Rate n → (l : List ℕ) → length l ≤ 0 → (1 ≡ counted r) × (l ≡ widened r l)
+  rate-nowhere {n} h l q = rw (← rated-as (Rate n) h) (refl, no-first n l q)
+
+  pub rate-none : v ≡ None → (l : List ℕ) → (0 ≡ counted r) × (l ≡ widened r l)
+  rate-none h l = rw (← rated-as None h) (refl, refl)
+
+  pub rate-refused : {n w : ℕ} → v ≡ rated.Refused n → w ≡ n → (l : List ℕ) → (w * 4294967296 ≡ counted r) × (l ≡ widened r l)
+  rate-refused {n} {w} h q l =
+      let k : w * 4294967296 ≡ n * 4294967296 + 0 = omega (arith, q) in
+      rw (← rated-as (rated.Refused n) h) (k, refl)
+
+-- a restore's end: its number, and a record's place
+module _ {v : Restored} {r : Reply} (e : restored v ≡ r) where
+  ended-as : (w : Restored) → v ≡ w → restored w ≡ r
+  ended-as w h = ap restored (sym h) ∙ e
+
+  pub restore-done : v ≡ end.Done → (l : List ℕ) → (0 ≡ r .number * 4294967296) × (l ≡ widened r l)
+  restore-done h l = rw (← ended-as end.Done h) (refl, refl)
+
+  pub restore-refused : {n w : ℕ} → v ≡ end.Refused n → w ≡ n → (l : List ℕ) → (w * 4294967296 ≡ r .number * 4294967296) × (l ≡ widened r l)
+  restore-refused {n} {w} h q l = rw (← ended-as (end.Refused n) h) (ap (λ x. x * 4294967296) q, refl)
+
+  pub restore-stopped : {n at w : ℕ} → v ≡ end.Stopped n at → w ≡ n → (l : List ℕ) → 0 < length l → (w * 4294967296 ≡ r .number * 4294967296) × (set l 0 at ≡ widened r l)
+  restore-stopped {n} {at} {w} h q l p = rw (← ended-as (end.Stopped n at) h) (ap (λ x. x * 4294967296) q, set-first at l p)
+
+  pub restore-nowhere : {n at w : ℕ} → v ≡ end.Stopped n at → w ≡ n → (l : List ℕ) → length l ≤ 0 → (w * 4294967296 ≡ r .number * 4294967296) × (l ≡ widened r l)
+  restore-nowhere {n} {at} {w} h q l p = rw (← ended-as (end.Stopped n at) h) (ap (λ x. x * 4294967296) q, no-first at l p)

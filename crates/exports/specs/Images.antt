@@ -1,6 +1,7 @@
 -- A value that is too wide to come with a number: it goes to the first place of a lent list.
 use mathlib.Core.List.{List, [], _∷_}
-use Prim.Native.Nat.{ℕ}
+use Prim.Native.Nat.{ℕ, _+_, _*_}
+use lib.ListN.{length}
 use Rattle.model.specs.Reply.{Reply}
 
 abbrev pub firstIs : List ℕ → List ℕ → List ℕ
@@ -10,3 +11,7 @@ firstIs (v ∷ vs) (x ∷ l) = v ∷ l
 
 abbrev pub widened : Reply → List ℕ → List ℕ
 widened r l = firstIs (r .values) l
+
+-- how many values come with a number, where there may be none
+abbrev pub counted : Reply → ℕ
+counted r = r .number * 4294967296 + length (r .values)

@@ -1,5 +1,6 @@
 // Open, the exact test, Validate, Apply and the lookups for programs in other languages.
 use crate::pack;
+use lookup::Rated;
 use lookup::Value;
 use model::NodeId;
 use wire::wide;
@@ -8,10 +9,10 @@ ghost use mathlib.Core.Bool.{cond};
 ghost use Prim.Native.Nat.{_*_};
 ghost use Rattle.model.specs.Apply.{applyOf};
 ghost use Rattle.model.specs.Image.{isImage, openOf};
-ghost use Rattle.model.specs.Lookup.{topicByName, topicById, partitionOf, brokerOf, epochOf, shortOf};
+ghost use Rattle.model.specs.Lookup.{topicByName, topicById, partitionOf, brokerOf, epochOf, shortOf, freezeOf, throttleOf};
 ghost use Rattle.model.specs.Validate.{validateOf};
 ghost use Rattle.exports.specs.Exports.{packed};
-ghost use Rattle.exports.specs.Images.{widened};
+ghost use Rattle.exports.specs.Images.{counted, widened};
 
 // Opens a fresh image in a buffer of 128 to 65,536 bytes.
 #[no_mangle]
@@ -111,5 +112,32 @@ pub extern "C" fn jeghatuf_features_epoch(image: &[u8], value: &mut [u64]) -> u6
             0
         }
         Value::Refused(number) => wide(number) * 0x1_0000_0000,
+    }
+}
+
+// The freeze of a name, as its record.
+#[no_mangle]
+pub extern "C" fn jeghatuf_freeze(image: &[u8], name: &[u8], out: &mut [u8]) -> u64
+    ensures { λ r. ⌜ r ≡ packed (freezeOf (now (image .entry)) (now (name .entry)) (now (out .entry)) .reply) ⌝ }
+    ensures { λ _. ⌜ now (out .exit) ≡ freezeOf (now (image .entry)) (now (name .entry)) (now (out .entry)) .buffer ⌝ }
+{
+    pack(lookup::freeze(image, name, out))
+}
+
+// The rate of a node in the first of `value`, and whether there is one, 1 or 0: none and the rate 0 differ.
+#[no_mangle]
+pub extern "C" fn jeghatuf_throttle(image: &[u8], node: u64, kind: u8, value: &mut [u64]) -> u64
+    ensures { λ r. ⌜ r ≡ counted (throttleOf (now (image .entry)) node kind) ⌝ }
+    ensures { λ _. ⌜ now (value .exit) ≡ widened (throttleOf (now (image .entry)) node kind) (now (value .entry)) ⌝ }
+{
+    match lookup::throttle(image, NodeId(node), kind) {
+        Rated::Rate(rate) => {
+            if value.len() > 0 {
+                value[0] = rate;
+            }
+            1
+        }
+        Rated::None => 0,
+        Rated::Refused(number) => wide(number) * 0x1_0000_0000,
     }
 }

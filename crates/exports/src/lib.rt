@@ -1,5 +1,6 @@
 // The entry points for programs in other languages. Each answers with one number: 01's number times 2^32, and the value that comes with it.
 mod images;
+mod restarts;
 
 use model::Kind;
 use records::Answer;

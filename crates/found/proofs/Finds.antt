@@ -93,7 +93,7 @@ topic-room : (k : Kind) (run : Run) → k ≡ Topic → fault stored k run ≡ 0
 unfolding rowsOf shapeOf kindNumber
 topic-room k run e = rw e (λ ok. value-room 5 4 run (fault-value stored Topic run ok 5 refl refl))
 
-entire : (e : Bytes) → IsRecord e → Entire e
+pub entire : (e : Bytes) → IsRecord e → Entire e
 unfolding recordBytes kindNumber
 entire e i =
     let l = ap length (i .bytes) ∙ length-record (i .value) in

@@ -2,10 +2,10 @@
 use mathlib.Core.Path.{_≡_, refl, sym, ap, _∙_}
 use mathlib.Core.Bool.{Bool, true, false, not}
 use mathlib.Core.List.{List, [], _∷_, map}
-use mathlib.Core.Option.{Option}
+use mathlib.Core.Option.{Option, none, some}
 use Prim.Native.Nat.{ℕ, zero, suc, _-_, _≤_}
 use native.Mathlib.Omega.{arith}
-use borrow.Author.Tests.{not-true, not-false, leb-true}
+use borrow.Author.Tests.{not-true, not-false, leb-true, ne-eqb}
 use lib.Dec.{leb}
 use lib.ListN.{length, take, drop}
 use lib.Seq.{slice}
@@ -23,7 +23,7 @@ use Rattle.model.specs.Contents.{Entry, key}
 use Rattle.model.specs.Image.{headSize, fixedIn, entryOf, isImage, contentsOf}
 use Rattle.model.specs.Reply.{Reply, accepted, refused, Ended, unchanged}
 use Rattle.model.specs.Snapshot.{emit}
-use Rattle.model.specs.Lookup.{found, named, namedBy, topicByName, topicById, partitionOf, brokerOf, epochOf, shortCount, shortOf}
+use Rattle.model.specs.Lookup.{found, named, namedBy, topicByName, topicById, partitionOf, brokerOf, epochOf, shortCount, shortOf, throttle, throttleName, leaderRate, followerRate, alterLogDirsRate, freeze, asList, asValues, freezeOf, throttleOf}
 use Rattle.model.specs.declared.Kind.the-variants.{Topic, Partition, BrokerRegistration}
 use Rattle.laws.specs.Choice.{orThen-right, unless-true}
 use Rattle.laws.specs.Numbers.{length-bytes}
@@ -32,6 +32,10 @@ use Rattle.keys.proofs.Found.{lent-slice}
 use Rattle.entries.specs.Entries.{recordsIn, Entries}
 use Rattle.found.specs.Found.{Query, queryKey, foundIn, AllKept}
 use Rattle.reals.specs.Reals.{Reals}
+use Rattle.rates.specs.Rates.{rated}
+use Rattle.rates.specs.declared.Rate.{Rate}
+use Rattle.lookup.specs.Values.{rating, ratedAs}
+use Rattle.lookup.specs.declared.Rated.{Rated}
 
 -- 1. The real entries, as they are lent
 
@@ -88,6 +92,10 @@ broker-key node = refl
 pub image-head : (image : Bytes) → isImage image ≡ true → headSize ≤ length image
 image-head image h = omega (arith, capacity-least (length image) (image-holds image h .within))
 
+pub rate-as : (image : Bytes) {end : ℕ} (h : Reals image end) (node : ℕ) (name : Bytes) (r : Rate)
+    → rated r ≡ throttle node name (map entryOf (recordsIn (take (end - headSize) (drop headSize image)))) → ratedAs (rated r) ≡ ratedAs (throttle node name (contentsOf image .real))
+rate-as image {end} h node name r e = ap ratedAs (e ∙ ap (throttle node name) (lent-held image end h))
+
 -- 3. The answers
 
 abbrev Same : Reply → Bytes → Ended → Type 0
@@ -116,6 +124,14 @@ module _ (image out : Bytes) {is : Bool} (ei : is ≡ isImage image) where
     unfolding brokerOf
     broker-no-image node = rw (← ei, not-true is no) (refl, refl)
 
+    pub freeze-no-image : (name : Bytes) → Same (refused 1) out (freezeOf image name out)
+    unfolding freezeOf
+    freeze-no-image name = rw (← ei, not-true is no) (refl, refl)
+
+    pub throttle-no-image : (node kind : ℕ) → refused 1 ≡ throttleOf image node kind
+    unfolding throttleOf
+    throttle-no-image node kind = rw (← ei, not-true is no)
+
     pub epoch-no-image : refused 1 ≡ epochOf image
     unfolding epochOf
     epoch-no-image = rw (← ei, not-true is no)
@@ -141,6 +157,10 @@ module _ (image out : Bytes) {is : Bool} (ei : is ≡ isImage image) where
       unfolding topicByName
       topic-refused = rw image-is (refused-name (found (get key (topicKey name) (contentsOf image .real))))
 
+      pub freeze-refused : Same (refused f) out (freezeOf image name out)
+      unfolding freezeOf
+      freeze-refused = rw image-is (refused-name (asList (freeze name (contentsOf image .real))))
+
       pub partition-refused : (n : ℕ) → Same (refused f) out (partitionOf image name n out)
       unfolding partitionOf
       partition-refused n = rw image-is (refused-name (found (get key (partitionKey Partition name (bytes 4 n)) (contentsOf image .real))))
@@ -164,9 +184,39 @@ module _ (image out : Bytes) {is : Bool} (ei : is ≡ isImage image) where
       broker-found n node q s =
           rw image-is (same-key image out (queryKey 3 node []) (nodeKey BrokerRegistration (bytes 8 n)) (broker-key node ∙ ap (nodeKey BrokerRegistration) q) s)
 
+      pub freeze-found : (name : Bytes) {l : List Entry} → 0 ≡ textFault stringLimit name → l ≡ contentsOf image .real → Same r o (emit (asList (freeze name l)) out)
+          → Same r o (freezeOf image name out)
+      unfolding freezeOf
+      freeze-found name e q s = rw (image-is, ← e, ← q) s
+
       pub id-found : (id : Bytes) {l : List Entry} → l ≡ contentsOf image .real → Same r o (emit (found (namedBy id l)) out) → Same r o (topicById image id out)
       unfolding topicById
       id-found id e s = rw (image-is, ← e) s
+
+    -- the three kinds of a rate, and the others
+    module _ (node : ℕ) {x : Rated} where
+      said : (name : Bytes) → x ≡ ratedAs (throttle node name (contentsOf image .real)) → rating x ≡ accepted (asValues (throttle node name (contentsOf image .real)))
+      said name e = ap rating e ∙ go (throttle node name (contentsOf image .real))
+        where
+          go : (o : Option ℕ) → rating (ratedAs o) ≡ accepted (asValues o)
+          go none = refl
+          go (some n) = refl
+
+      pub leader-said : (kind : ℕ) → kind ≡ 0 → x ≡ ratedAs (throttle node leaderRate (contentsOf image .real)) → rating x ≡ throttleOf image node kind
+      unfolding throttleOf throttleName
+      leader-said kind k e = rw (image-is, k) (said leaderRate e)
+
+      pub follower-said : (kind : ℕ) → kind ≡ 1 → x ≡ ratedAs (throttle node followerRate (contentsOf image .real)) → rating x ≡ throttleOf image node kind
+      unfolding throttleOf throttleName
+      follower-said kind k e = rw (image-is, k) (said followerRate e)
+
+      pub dirs-said : (kind : ℕ) → kind ≡ 2 → x ≡ ratedAs (throttle node alterLogDirsRate (contentsOf image .real)) → rating x ≡ throttleOf image node kind
+      unfolding throttleOf throttleName
+      dirs-said kind k e = rw (image-is, k) (said alterLogDirsRate e)
+
+    pub no-such-rate : (node kind : ℕ) → (kind ≡ 0 → ⊥) → (kind ≡ 1 → ⊥) → (kind ≡ 2 → ⊥) → refused 4 ≡ throttleOf image node kind
+    unfolding throttleOf throttleName
+    no-such-rate node kind a b c = rw (image-is, ne-eqb kind 0 a, ne-eqb kind 1 b, ne-eqb kind 2 c) refl
 
     pub epoch-found : {n : ℕ} → n ≡ fixedIn image .epoch → accepted (n ∷ []) ≡ epochOf image
     unfolding epochOf contentsOf

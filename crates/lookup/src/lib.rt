@@ -1,24 +1,31 @@
-// Lookups: a stored entry as its record, the features epoch, the number of short partitions.
+// Lookups: a stored entry as its record, the features epoch, the number of short partitions, the freeze of a name, a rate.
 use found::emit_found;
+use freezes::emit_freeze;
 use header::NO_IMAGE;
 use header::epoch_in;
 use image::is_image;
 use model::NodeId;
+use rates::Rate;
 use reals::reals_end;
 use records::Answer;
 use scans::emit_named;
 use scans::short_in;
+use shape_faults::WRONG;
 use shape_faults::text_fault;
+use throttles::rate_in;
 ghost use mathlib.Core.Path.{_≡_};
 ghost use mathlib.Core.Bool.{true};
+ghost use Prim.Native.Nat.{_≤_};
+ghost use lib.ListN.{length};
 ghost use Rattle.model.specs.Map.{get};
 ghost use Rattle.model.specs.Contents.{key};
 ghost use Rattle.model.specs.Image.{isImage, contentsOf};
 ghost use Rattle.model.specs.Snapshot.{emit};
-ghost use Rattle.model.specs.Lookup.{found, topicByName, topicById, partitionOf, brokerOf, epochOf, shortOf};
+ghost use Rattle.model.specs.Lookup.{found, topicByName, topicById, partitionOf, brokerOf, epochOf, shortOf, throttle as throttleIn, freezeOf, throttleOf};
 ghost use Rattle.records.specs.Answers.{replied};
 ghost use Rattle.found.specs.Found.{Query, queryKey};
-ghost use Rattle.lookup.specs.Values.{valued};
+ghost use Rattle.lookup.specs.Values.{valued, rating, ratedAs};
+ghost use Rattle.rates.specs.Rates.{rated};
 
 // The kinds that are looked up.
 const TOPIC: u8 = 1;
@@ -122,4 +129,55 @@ pub fn short_count(image: &[u8]) -> Value
     }
     let end = reals_end(image);
     Value::Is(short_in(&image[64..end]))
+}
+
+// The freeze of a name: none for an internal one, else its literal scope's, else its longest stored prefix's.
+pub fn freeze(image: &[u8], name: &[u8], out: &mut [u8]) -> Answer
+    ensures { λ r. ⌜ replied r ≡ freezeOf (now (image .entry)) (now (name .entry)) (now (out .entry)) .reply ⌝ }
+    ensures { λ _. ⌜ now (out .exit) ≡ freezeOf (now (image .entry)) (now (name .entry)) (now (out .entry)) .buffer ⌝ }
+{
+    if !is_image(image) {
+        return Answer::Refused(NO_IMAGE);
+    }
+    let f = text_fault(name, NAME_LIMIT);
+    if f != 0 {
+        return Answer::Refused(f);
+    }
+    let end = reals_end(image);
+    emit_freeze(&image[64..end], name, out)
+}
+
+// A rate, none, or a refusal: none and 0 differ.
+pub enum Rated {
+    Rate(u64),
+    None,
+    Refused(u8),
+}
+
+// The rate of a node by the config of a name.
+fn rate(image: &[u8], node: u64, name: &[u8]) -> Rated
+    requires { ⌜ (isImage (now image) ≡ true) × (length (now name) ≤ 255) ⌝ }
+    ensures { λ r. ⌜ r ≡ ratedAs (throttleIn node (now (name .entry)) (contentsOf (now (image .entry)) .real)) ⌝ }
+{
+    let end = reals_end(image);
+    match rate_in(&image[64..end], node, name) {
+        Rate::Is(n) => Rated::Rate(n),
+        Rate::None => Rated::None,
+    }
+}
+
+// The rate of a node: 0 the leader's replication, 1 the follower's, 2 the moves between log directories.
+pub fn throttle(image: &[u8], node: NodeId, kind: u8) -> Rated
+    ensures { λ r. ⌜ rating r ≡ throttleOf (now (image .entry)) (node .0) kind ⌝ }
+{
+    if !is_image(image) {
+        return Rated::Refused(NO_IMAGE);
+    }
+    let of = node.0;
+    match kind {
+        0 => rate(image, of, b"leader.replication.throttled.rate"),
+        1 => rate(image, of, b"follower.replication.throttled.rate"),
+        2 => rate(image, of, b"replica.alter.log.dirs.io.max.bytes.per.second"),
+        3..=255 => Rated::Refused(WRONG),
+    }
 }

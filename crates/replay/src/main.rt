@@ -1,78 +1,48 @@
 // Replays stored histories, one operation to a line in hexadecimal, and writes what each answers. The first byte of a line is the operation:
 //
-//     00 CAPACITY(3)   Open of a buffer of so many bytes, each of them 0xaa
-//     01 RECORD        Validate, and Apply where it says 0
-//     02 RECORD        Validate, and Apply whatever it says
+//     00 CAPACITY(3)        Open of a buffer of so many bytes, each of them 0xaa
+//     01 RECORD             Validate, and Apply where it says 0
+//     02 RECORD             Validate, and Apply whatever it says
+//     03                    a cut: Snapshot, and Restore of what it wrote into a buffer of 0xaa
+//     04 BYTES              Restore of any bytes
+//     05                    Snapshot
+//     06 NAME               the freeze of a name
+//     07 KIND NODE(8)       the throttle of a node
+//     08 LEVEL(2)           the listing for a downgrade
+//     09 NUMBER(4) NAME     the partition of a topic and a number
 //
-// A line of the output has the place of its operation, from 1; Open's number, or Validate's and then Apply's; and after Open and Apply the
-// used length and a digest of the whole buffer.
-mod print;
+// A line of the output has the place of its operation, from 1, and then: the numbers that it says (Validate's and Apply's; Snapshot's and Restore's;
+// a refused Restore's with its place); after Open, Apply and Restore the used length and a digest of the whole buffer; of what writes records how
+// many bytes and their digest; of a throttle the rate where there is one.
+mod history;
+mod questions;
 
-use print::end_line;
-use print::print_buffer;
-use print::print_first;
-use print::print_next;
-use print::print_no_line;
-use wire::wide;
+use answer_lines::end_line;
+use answer_lines::print_first;
+use answer_lines::print_no_line;
 
-// What Open finds in its buffer.
-const DIRT: u8 = 0xaa;
-
-fn fill(buffer: &mut [u8]) {
-    let mut i = 0;
-    while i < buffer.len() {
-        buffer[i] = DIRT;
-        i += 1;
+// One operation on an image.
+fn run(operation: u8, image: &mut [u8], out: &mut [u8], rest: &[u8]) {
+    match operation {
+        1 => history::step(false, image, rest),
+        2 => history::step(true, image, rest),
+        3 => history::cut(image, out),
+        4 => history::restore(image, rest),
+        0 | 5..=255 => questions::ask(operation, image, out, rest),
     }
 }
 
-fn open_in(buffer: &mut [u8]) {
-    fill(buffer);
-    let number = header::open(buffer);
-    print_next(wide(number));
-    print_buffer(buffer);
-}
-
-// Opens an image of the capacity that a line says. The capacity of the buffer that the next records go to.
-fn open(work: &mut [u8], rest: &[u8]) -> usize {
-    if rest.len() < 3 {
-        print_no_line();
-        return 0;
-    }
-    let capacity = wire::get(rest, 0, 3) as usize;
-    if work.len() < capacity {
-        print_no_line();
-        return 0;
-    }
-    open_in(&mut work[..capacity]);
-    capacity
-}
-
-fn apply_in(image: &mut [u8], record: &[u8]) {
-    let number = apply::apply(image, record);
-    print_next(wide(number));
-    print_buffer(image);
-}
-
-fn step_in(always: bool, image: &mut [u8], record: &[u8]) {
-    let number = validate::validate(image, record);
-    print_next(wide(number));
-    if always || number == 0 {
-        apply_in(image, record);
-    }
-}
-
-// One record of a history whose image has the first `capacity` bytes.
-fn step(always: bool, work: &mut [u8], capacity: usize, record: &[u8]) {
+// One operation on the image that has the first `capacity` bytes.
+fn run_in(operation: u8, work: &mut [u8], capacity: usize, out: &mut [u8], rest: &[u8]) {
     if work.len() < capacity {
         print_no_line();
         return;
     }
-    step_in(always, &mut work[..capacity], record);
+    run(operation, &mut work[..capacity], out, rest);
 }
 
 // Runs a line's operation. The capacity afterwards.
-fn answer(bytes: &[u8], work: &mut [u8], capacity: usize) -> usize {
+fn answer(bytes: &[u8], work: &mut [u8], out: &mut [u8], capacity: usize) -> usize {
     if bytes.len() == 0 {
         print_no_line();
         return capacity;
@@ -80,18 +50,14 @@ fn answer(bytes: &[u8], work: &mut [u8], capacity: usize) -> usize {
     let operation = bytes[0];
     let rest = &bytes[1..];
     if operation == 0 {
-        return open(work, rest);
+        return history::open(work, rest);
     }
-    if operation <= 2 {
-        step(operation == 2, work, capacity, rest);
-    } else {
-        print_no_line();
-    }
+    run_in(operation, work, capacity, out, rest);
     capacity
 }
 
 // Reads the whole input. A proved loop has to end, and nothing says that an input does: the places end at a number that no run comes to.
-fn read_all(bytes: &mut [u8], work: &mut [u8], chunk: &mut [u8]) {
+fn read_all(bytes: &mut [u8], work: &mut [u8], out: &mut [u8], chunk: &mut [u8]) {
     let mut input = hex_lines::start();
     let mut capacity = 0;
     let mut place = 0;
@@ -103,7 +69,7 @@ fn read_all(bytes: &mut [u8], work: &mut [u8], chunk: &mut [u8]) {
         place += 1;
         print_first(place);
         let len = input.len;
-        capacity = answer(&bytes[..len], work, capacity);
+        capacity = answer(&bytes[..len], work, out, capacity);
         end_line();
     }
 }
@@ -111,6 +77,7 @@ fn read_all(bytes: &mut [u8], work: &mut [u8], chunk: &mut [u8]) {
 fn main() {
     let mut bytes = [0u8; 70000];
     let mut work = [0u8; 70000];
+    let mut out = [0u8; 70000];
     let mut chunk = io::large_buffer();
-    read_all(&mut bytes, &mut work, &mut chunk);
+    read_all(&mut bytes, &mut work, &mut out, &mut chunk);
 }

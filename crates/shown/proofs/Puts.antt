@@ -42,7 +42,7 @@ module _ (e : Bytes) (h : getD e 0 0 ≡ 1 → ⊥) where
   other-put out o at q = rw (ne-eqb (getD e 0 0) 1 h) q
 
 -- as long as it says
-length-shown : (e : Bytes) → Entire e → length (shownBytes e) ≡ shownSize e
+pub length-shown : (e : Bytes) → Entire e → length (shownBytes e) ≡ shownSize e
 unfolding shownBytes
 length-shown e entire = go (eqb (getD e 0 0) 1) refl
   where

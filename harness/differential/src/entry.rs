@@ -3,9 +3,13 @@
 
 #[cfg(feature = "images")]
 mod images;
+#[cfg(feature = "images")]
+mod restarts;
 
 #[cfg(feature = "images")]
 pub use images::*;
+#[cfg(feature = "images")]
+pub use restarts::*;
 
 unsafe extern "C" {
     fn jeghatuf_read(input: *const u8, input_len: usize) -> u64;

@@ -1,12 +1,17 @@
-//! Compares Validate and Apply with the reference, step by step along whole
-//! histories. A step is held to the number and to every byte of the buffer.
+//! Compares Validate, Apply, Snapshot and Restore with the reference, step by
+//! step along whole histories, uncut and cut. A step is held to the number and
+//! to every byte of the buffer.
 
 mod course;
+mod cuts;
 mod drawn;
 mod no_image;
+mod premises;
 mod reference;
+mod restart;
 mod short;
 
+pub use cuts::compare_cuts;
 pub use drawn::compare_drawn;
 pub use no_image::compare_no_image;
 pub use short::compare_short;

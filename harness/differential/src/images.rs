@@ -1,6 +1,7 @@
 //! Compares the entry points of images with the harness's own answers and with
 //! the reference's images of generated histories.
 
+pub(crate) mod answers;
 mod buffers;
 mod cases;
 mod exact;
@@ -8,6 +9,7 @@ mod full;
 mod history;
 mod lookups;
 mod open;
+mod rules;
 mod subject;
 mod tally;
 mod verdicts;

@@ -1,8 +1,10 @@
 //! The reference's answers in the scope paper's (01's) terms: what an image
 //! holds, in 01's order, and its bytes; whether bytes are an image; verdicts as
-//! 01's numbers; generated histories; facts.
+//! 01's numbers; the listing for a downgrade; the restore of any bytes;
+//! generated histories; facts.
 
 pub mod cases;
+pub mod downgrade;
 pub mod exact;
 pub mod facts;
 pub mod generate;

@@ -51,6 +51,22 @@ unsafe extern "C" {
         value_len: usize,
     ) -> u64;
     fn jeghatuf_short_count(image: *const u8, image_len: usize) -> u64;
+    fn jeghatuf_freeze(
+        image: *const u8,
+        image_len: usize,
+        name: *const u8,
+        name_len: usize,
+        out: *mut u8,
+        out_len: usize,
+    ) -> u64;
+    fn jeghatuf_throttle(
+        image: *const u8,
+        image_len: usize,
+        node: u64,
+        kind: u8,
+        value: *mut u64,
+        value_len: usize,
+    ) -> u64;
 }
 
 /// Makes the buffer a fresh image. The value is 0.
@@ -154,4 +170,35 @@ pub fn features_epoch(image: &[u8], value: &mut [u64]) -> Result<usize, u8> {
 pub fn short_count(image: &[u8]) -> Result<usize, u8> {
     // SAFETY: the pointer and the length are a slice's.
     unpacked(unsafe { jeghatuf_short_count(image.as_ptr(), image.len()) })
+}
+
+/// As `topic`, for the freeze of a name.
+pub fn freeze(image: &[u8], name: &[u8], out: &mut [u8]) -> Result<usize, u8> {
+    // SAFETY: each pointer and length are a slice's, and `out` is borrowed alone.
+    unpacked(unsafe {
+        jeghatuf_freeze(
+            image.as_ptr(),
+            image.len(),
+            name.as_ptr(),
+            name.len(),
+            out.as_mut_ptr(),
+            out.len(),
+        )
+    })
+}
+
+/// Puts a node's rate of a kind into `value[0]`. The value is how many rates
+/// there are, 0 or 1.
+pub fn throttle(image: &[u8], node: u64, kind: u8, value: &mut [u64]) -> Result<usize, u8> {
+    // SAFETY: each pointer and length are a slice's, and `value` is borrowed alone.
+    unpacked(unsafe {
+        jeghatuf_throttle(
+            image.as_ptr(),
+            image.len(),
+            node,
+            kind,
+            value.as_mut_ptr(),
+            value.len(),
+        )
+    })
 }

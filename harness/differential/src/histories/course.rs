@@ -3,20 +3,24 @@
 use oracle::image::image;
 
 use super::expect;
-use super::reference::Reference;
+use super::reference::{NO_ROOM, Reference};
 use crate::images::{Compared, Tally, shown};
 use crate::random::Random;
-use crate::{apply, open, validate};
-
-/// The weight afterwards exceeds the capacity.
-const NO_ROOM: u8 = 18;
+use crate::{apply, open};
 
 #[derive(Clone)]
 pub struct Course {
     pub buffer: Vec<u8>,
     /// The bytes that the reference's image has at the buffer's capacity.
     expected: Vec<u8>,
-    reference: Reference,
+    pub reference: Reference,
+}
+
+/// What a step says: Validate's number, and Apply's where it was asked.
+#[derive(PartialEq, Eq, Debug, Clone, Copy)]
+pub struct Verdict {
+    pub validate: u8,
+    pub apply: Option<u8>,
 }
 
 impl Course {
@@ -38,18 +42,26 @@ impl Course {
 
     /// One step: Validate, then Apply, of any bytes. In a validated one Apply
     /// gets no record that Validate refuses; what is no record it always gets.
-    pub fn take(&mut self, tally: &mut Tally, input: &[u8], validated: bool) -> Compared {
-        let verdict = self.reference.verdict(input);
-        expect(tally, "Validate", validate(&self.buffer, input), verdict)?;
-        let judged = verdict > wire::OVER_A_LIMIT;
-        match validated && judged {
-            true => self.compare_bytes(),
-            false => self.apply(tally, input),
-        }
+    pub fn take(
+        &mut self,
+        tally: &mut Tally,
+        input: &[u8],
+        validated: bool,
+    ) -> Result<Verdict, String> {
+        let validate = self.reference.verdict(input);
+        let number = crate::validate(&self.buffer, input);
+        expect(tally, "Validate", number, validate)?;
+        let judged = validate > wire::OVER_A_LIMIT;
+        let apply = match validated && judged {
+            true => None,
+            false => Some(self.apply(tally, input)?),
+        };
+        self.compare_bytes()?;
+        Ok(Verdict { validate, apply })
     }
 
     /// The reference moves where the library must, and stays where it must not.
-    fn apply(&mut self, tally: &mut Tally, input: &[u8]) -> Compared {
+    fn apply(&mut self, tally: &mut Tally, input: &[u8]) -> Result<u8, String> {
         let expected = match self.after(input) {
             Ok((reference, bytes)) => {
                 (self.reference, self.expected) = (reference, bytes);
@@ -62,6 +74,14 @@ impl Course {
             tally.count("Apply's 0 by kind", format!("{:02}", input[0]));
         }
         expect(tally, "Apply", number, expected)?;
+        Ok(number)
+    }
+
+    /// Goes on with another buffer, which must hold what the reference does.
+    pub fn go_on(&mut self, buffer: Vec<u8>, reference: Reference) -> Compared {
+        let expected = image(&reference.observed(), buffer.len());
+        self.expected = expected.expect("contents that fit");
+        (self.buffer, self.reference) = (buffer, reference);
         self.compare_bytes()
     }
 

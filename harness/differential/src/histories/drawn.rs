@@ -36,21 +36,21 @@ pub fn compare_drawn(tally: &mut Tally, seed: u64) -> Compared {
 
 /// All room; as much as the history needs, and one byte less; and any amount
 /// below that, where room runs out often.
-fn capacities(random: &mut Random, reached: usize) -> [usize; 4] {
+pub fn capacities(random: &mut Random, reached: usize) -> [usize; 4] {
     let below = FIXED_ROOM + random.below(reached - FIXED_ROOM + 1);
     [MOST_CAPACITY, reached, reached - 1, below]
         .map(|capacity| capacity.clamp(FIXED_ROOM, MOST_CAPACITY))
 }
 
-struct Drawn {
-    validated: bool,
-    inputs: Vec<Vec<u8>>,
+pub struct Drawn {
+    pub validated: bool,
+    pub inputs: Vec<Vec<u8>>,
     /// The greatest weight on the way, by the reference alone.
-    reached: usize,
+    pub reached: usize,
 }
 
 impl Drawn {
-    fn of(random: &mut Random, seed: u64) -> Self {
+    pub fn of(random: &mut Random, seed: u64) -> Self {
         let knobs = knobs(seed);
         let mut generator = Generator::new(seed, knobs);
         let mut reference = Reference::new();

@@ -1,13 +1,19 @@
 //! The reference's image, and what it says of the next record.
 
 use krabka_metadata::{MetadataImage, MetadataRecord};
-use oracle::observe::{Observed, Witness, observe};
+use oracle::image::weight;
+use oracle::observe::{Observed, Witness, observe, restored};
 use oracle::verdict::{ACCEPTED, offset_leaves_i64, verdict};
 use uuid::Uuid;
 use wire::decode;
 
 /// The offset's sum leaves i64.
 pub const NO_OFFSET: u8 = 17;
+/// The weight afterwards exceeds the capacity.
+pub const NO_ROOM: u8 = 18;
+
+/// The first refusal of Restore, with the place of its record.
+pub type Stopped = (u8, usize);
 
 #[derive(Clone)]
 pub struct Reference {
@@ -57,6 +63,36 @@ impl Reference {
         if !refused && !offset_leaves_i64(&self.image, &record) {
             self.apply(&record);
         }
+    }
+
+    /// What `from_records` makes of the image's own snapshot.
+    pub fn restarted(&self) -> Self {
+        Self {
+            image: restored(&self.observed()),
+            witness: self.witness.clone(),
+        }
+    }
+
+    /// Record after record from a fresh image, up to the first refusal.
+    pub fn restored(input: &[u8], capacity: usize) -> (Self, Option<Stopped>) {
+        let mut reference = Self::new();
+        let mut place = 0;
+        while place < input.len() {
+            let after = reference.after(&input[place..]).and_then(|after| {
+                match weight(&after.observed()) > capacity {
+                    true => Err(NO_ROOM),
+                    false => Ok(after),
+                }
+            });
+            match after {
+                Ok(after) => reference = after,
+                Err(number) => return (reference, Some((number, place))),
+            }
+            place += decode(&input[place..])
+                .expect("a record that was applied")
+                .1;
+        }
+        (reference, None)
     }
 
     fn apply(&mut self, record: &MetadataRecord) {

@@ -4,7 +4,7 @@ use oracle::image::MOST_CAPACITY;
 use oracle::layout::{HEAD_SIZE, Layout};
 use wire::damaged;
 
-use super::{Compared, Tally, exact, lookups};
+use super::{Compared, Tally, exact, lookups, rules};
 use crate::random::Random;
 
 /// Up to this size every byte of an image is changed, above it some are.
@@ -156,7 +156,8 @@ pub fn compare_random(tally: &mut Tally, seed: u64) -> Compared {
     let mut buffer: Vec<u8> = (0..length).map(|_| random.next() as u8).collect();
     let made = || format!("seed {seed}");
     exact::compare(tally, "random bytes", &buffer, made)?;
-    lookups::compare_no_image(tally, &buffer)
+    lookups::compare_no_image(tally, &buffer)?;
+    rules::compare_no_image(tally, &buffer)
         .map_err(|difference| format!("random bytes, seed {seed}: {difference}"))?;
     if length >= HEAD_SIZE {
         let used = HEAD_SIZE + random.below(length - HEAD_SIZE + 1);

@@ -2,7 +2,7 @@
 
 use oracle::cases::{Case, cases};
 
-use super::{Compared, Tally, exact, lookups};
+use super::{Compared, Tally, exact, lookups, rules};
 
 pub fn compare_cases(tally: &mut Tally) -> Compared {
     cases().iter().try_for_each(|case| compare(tally, case))
@@ -14,7 +14,8 @@ fn compare(tally: &mut Tally, case: &Case) -> Compared {
     let buffer = case.bytes.clone();
     exact::expect(tally, "cases", &buffer, case.is_image, named)?;
     if !case.is_image {
-        lookups::compare_no_image(tally, &buffer)
+        lookups::compare_no_image(tally, &buffer)?;
+        rules::compare_no_image(tally, &buffer)
             .map_err(|difference| format!("{}: {difference}", named()))?;
     }
     match buffer == case.bytes {

@@ -1,7 +1,8 @@
-//! Full images to time: brokers, and plans, each a topic of two partitions.
+//! Full images to time: brokers, a throttle and a freeze, and plans, each a
+//! topic of two partitions.
 
-use krabka_metadata::{MetadataImage, MetadataRecord, NodeId, PartitionRecord};
-use oracle::facts::build::{broker, id, partition, topic};
+use krabka_metadata::{MetadataImage, MetadataRecord, NodeId, PartitionRecord, PatternType};
+use oracle::facts::build::{broker, broker_config, freeze, id, partition, topic};
 use oracle::image::{image, weight};
 use oracle::observe::{Witness, observe};
 use uuid::Uuid;
@@ -9,6 +10,9 @@ use uuid::Uuid;
 use super::subject::Subject;
 
 const BROKERS: u64 = 3;
+const THROTTLE: &str = "leader.replication.throttled.rate";
+/// A prefix of every plan's name.
+const FROZEN: &str = "plan-";
 
 /// An image with as many plans as its capacity takes.
 pub struct Full {
@@ -45,6 +49,10 @@ fn name(plan: u64) -> String {
 
 fn records(plans: u64) -> Vec<MetadataRecord> {
     let brokers = (1..=BROKERS).map(|node| MetadataRecord::V1BrokerRegistration(broker(node, 1)));
+    let rules = [
+        broker_config(2, THROTTLE, Some("1048576")),
+        freeze(FROZEN, PatternType::Prefixed),
+    ];
     let plans = (0..plans).flat_map(|plan| {
         let name = name(plan);
         [
@@ -53,7 +61,7 @@ fn records(plans: u64) -> Vec<MetadataRecord> {
             MetadataRecord::V1Partition(sheet(&name, 1)),
         ]
     });
-    brokers.chain(plans).collect()
+    brokers.chain(rules).chain(plans).collect()
 }
 
 /// A partition with three replicas and their directories; of every second one

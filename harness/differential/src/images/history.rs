@@ -4,7 +4,7 @@ use krabka_metadata::MetadataRecord;
 use oracle::image::{FIXED_ROOM, MOST_CAPACITY, image};
 
 use super::subject::{Subject, applied};
-use super::{Compared, Tally, buffers, exact, lookups, verdicts};
+use super::{Compared, Tally, buffers, exact, lookups, rules, verdicts};
 use crate::random::Random;
 
 /// After how many records an image is looked at.
@@ -52,6 +52,7 @@ fn compare_image(tally: &mut Tally, records: &[MetadataRecord], seed: u64) -> Co
         let made = || format!("the image at {capacity}");
         exact::expect(tally, "images of histories", &image, true, made)?;
         lookups::compare(tally, &subject, &image)?;
+        rules::compare(tally, &subject, &image)?;
         verdicts::compare(tally, &subject, &image, seed)?;
         let places = match capacity == subject.weight {
             true => buffers::places(&mut random, &image),

@@ -1,7 +1,7 @@
 //! Each lookup of an image against the reference's own answer.
 
 mod answer;
-mod queries;
+pub mod queries;
 
 use krabka_metadata::{MetadataRecord, NodeId};
 use uuid::Uuid;
@@ -11,10 +11,10 @@ use super::exact::shown;
 use super::subject::Subject;
 use super::{Compared, Tally};
 use crate::{broker, features_epoch, partition, short_count, topic, topic_by_id};
-use answer::{compare_record, compare_refused, compare_value};
+pub use answer::{compare_record, compare_refused, compare_value};
 
 /// The buffer is no image.
-const NO_IMAGE: u8 = 1;
+pub const NO_IMAGE: u8 = 1;
 const NO_TEXT: u8 = 4;
 const TOO_LONG: u8 = 5;
 
@@ -90,8 +90,8 @@ fn compare_brokers(tally: &mut Tally, subject: &Subject, image: &[u8]) -> Compar
 /// The features epoch and the short count.
 fn compare_numbers(tally: &mut Tally, subject: &Subject, image: &[u8]) -> Compared {
     let epoch = subject.image.finalized_features_epoch();
-    let call = |value: &mut [u64]| features_epoch(image, value);
-    compare_value(tally, "features epoch", Ok(epoch), call)?;
+    let call = |value: &mut [u64]| features_epoch(image, value).map(|zero| zero + 1);
+    compare_value(tally, "features epoch", Ok(Some(epoch)), call)?;
     let (answer, expected) = (short_count(image), Ok(subject.observed.short));
     tally.count("short count", 0);
     match answer == expected {
@@ -128,13 +128,13 @@ fn bytes(record: Option<MetadataRecord>) -> Option<Vec<u8>> {
 }
 
 /// A name or an id: its length, and its first bytes.
-fn hex(name: &[u8]) -> String {
+pub fn hex(name: &[u8]) -> String {
     let bytes = name.iter().take(32).map(|byte| format!("{byte:02x}"));
     format!("{} bytes {}", name.len(), bytes.collect::<String>())
 }
 
 /// Names that are no UTF-8, and names that are too long; 4 comes before 5.
-fn bad_names() -> Vec<(Vec<u8>, u8)> {
+pub fn bad_names() -> Vec<(Vec<u8>, u8)> {
     let no_text: [&[u8]; 8] = [
         &[0xff],
         &[0x80],

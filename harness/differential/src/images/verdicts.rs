@@ -44,7 +44,7 @@ fn expect(
     question: impl Fn() -> String,
 ) -> Compared {
     let number = validate(image, input);
-    tally.count(WHAT, &number.to_string());
+    tally.count(WHAT, number);
     match number == expected {
         true => Ok(()),
         false => Err(format!(

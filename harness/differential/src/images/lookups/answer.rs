@@ -94,27 +94,27 @@ fn outputs(out: &[u8], end: &[u8]) -> String {
     }
 }
 
-/// The number goes into the first place; the others, and all of them where it
+/// A number that there is goes into the first place, and the answer says how
+/// many there are; the other places, and all of them where there is none or it
 /// is refused, stay.
 pub fn compare_value(
     tally: &mut Tally,
     what: &'static str,
-    expected: Result<i64, u8>,
+    expected: Result<Option<i64>, u8>,
     call: impl Fn(&mut [u64]) -> Answer,
 ) -> Compared {
-    let number = expected.map(|_| 0);
+    let count = expected.map(|value| usize::from(value.is_some()));
     for room in [1, 3] {
         let mut end = vec![0xDEAD_BEEF_0BAD_CAFE; room];
         let mut values = end.clone();
-        if let Ok(value) = expected {
+        if let Ok(Some(value)) = expected {
             end[0] = value.cast_unsigned();
         }
         let answer = call(&mut values);
-        tally.count(what, number.map_or_else(|number| number, |_| 0));
-        if answer != number || values != end {
+        tally.count(what, count.map_or_else(|number| number, |_| 0));
+        if answer != count || values != end {
             return Err(format!(
-                "the features epoch: {answer:?} and {values:x?}, \
-                 expected is {number:?} and {end:x?}"
+                "{what}: {answer:?} and {values:x?}, expected is {count:?} and {end:x?}"
             ));
         }
     }

@@ -17,7 +17,7 @@ pub fn names(image: &MetadataImage) -> BTreeSet<String> {
 }
 
 /// One character less, and one more where there is room.
-fn near_name(name: &str) -> Vec<String> {
+pub fn near_name(name: &str) -> Vec<String> {
     let mut shorter = name.to_owned();
     shorter.pop();
     let longer = format!("{name}\u{0}");

@@ -1,0 +1,96 @@
+-- `downgrade::put_entries` meets its contract. The invariant: what is written, and the records of the entries to come, are all.
+use borrow.Author.Needs.{needs}
+use Prim.Native.Nat.{_-_}
+use native.Mathlib.Omega.{arith}
+use lib.ListN.{length}
+use Rattle.model.specs.Number.{AreBytes}
+use Rattle.keys.proofs.Keys.{known-bytes}
+use Rattle.entries.proofs.Turns.{Stands, stands, ended, not-torn, turn-falls}
+use Rattle.stored.proofs.Turns.{forward, inside, is-record}
+use Rattle.projections.proofs.Growing.{grown-length}
+use Rattle.downgrade.proofs.Passes.{Wrote, write-start, entry-fits, write-turn, wrote}
+use Rattle.downgrade.proofs.put_entries.Statement.{statement}
+use Rattle.downgrade.proofs.put_entries.Tie as tie
+
+abbrev Inv-loop : tie.InvT-loop
+Inv-loop out₀ s level c₀ n₀ out c n = Wrote level s out₀ out (c .at) n
+
+abbrev μ-loop : tie.MeasureT-loop
+μ-loop out₀ s level c₀ n₀ out c n = length s - c .at
+
+loop-holds : tie.Need-loop-holds Inv-loop μ-loop
+loop-holds c = write-start _ _ _ (c .before .before .pre .0) (c .before .before .pre .1)
+
+next-requires : tie.Need-next-requires Inv-loop μ-loop
+next-requires c κs = search needs
+
+enum-known-start : tie.Need-enum-known-start Inv-loop μ-loop
+enum-known-start c = search needs
+
+-- the slice is of bytes
+bytes-in : (c : tie.After-next Inv-loop μ-loop) → AreBytes (c .before .before .before .before .args .s .now)
+bytes-in c = known-bytes (c .before .before .before .before .args .s .now) (λ i. omega (arith, c .before .before .shared-slice-known .given i))
+
+-- the entry that a step found
+entry : (c : tie.After-start Inv-loop μ-loop)
+    → (let g = c .start .given .0 in
+    Stands (c .before .before .before .before .before .before .args .s .now) (c .before .before .before .loop .c .at) (g .0) (g .1 .0) (g .1 .1 .0))
+entry c = stands _ (bytes-in (c .before .before)) _ (c .before .before .before .loop .inv .entries) (c .before .before .next .ensures) (c .start .given .1)
+
+sub-put-listed : tie.Need-sub-put-listed Inv-loop μ-loop
+sub-put-listed c = forward (entry (c .before .before))
+
+part-put-listed-start : tie.Need-part-put-listed-start Inv-loop μ-loop
+part-put-listed-start c = omega (arith, forward (entry (c .before .before)), inside (entry (c .before .before)))
+
+part-put-listed-end : tie.Need-part-put-listed-end Inv-loop μ-loop
+part-put-listed-end c = omega (arith, forward (entry (c .before .before)), inside (entry (c .before .before)))
+
+put-listed-requires : tie.Need-put-listed-requires Inv-loop μ-loop
+put-listed-requires c κs = (is-record (entry (c .before .before .before)), entry-fits (c .before .before .before .before .before .before .loop .inv) (entry (c .before .before .before)))
+
+loop-less : tie.Need-loop-less Inv-loop μ-loop
+loop-less c = turn-falls _ _ _ _ _ (entry (c .before .before .before .before .before .before))
+
+loop-again : tie.Need-loop-again Inv-loop μ-loop
+loop-again c = write-turn (c .before .before .before .before .before .before .before .before .before .loop .inv) (entry (c .before .before .before .before .before .before)) (c .before .before .put-listed .ensures)
+
+enum-told : tie.Need-enum-told Inv-loop μ-loop
+enum-told c = search needs
+
+same-length : tie.Need-same-length Inv-loop μ-loop
+same-length c = grown-length (c .before .before .before .loop .inv .grows)
+
+returns : tie.Need-returns Inv-loop μ-loop
+returns c = not-torn _ (bytes-in (c .before .before)) _ (c .before .before .before .loop .inv .entries) (c .before .before .next .ensures) (c .enum-told .given .1)
+
+enum-told-2 : tie.Need-enum-told-2 Inv-loop μ-loop
+enum-told-2 c = search needs
+
+same-length-2 : tie.Need-same-length-2 Inv-loop μ-loop
+same-length-2 c = grown-length (c .before .before .before .loop .inv .grows)
+
+returns-2 : tie.Need-returns-2 Inv-loop μ-loop
+returns-2 c = wrote (c .before .before .before .loop .inv) (ended _ (bytes-in (c .before .before)) _ (c .before .before .before .loop .inv .entries) (c .before .before .next .ensures) (c .enum-told2 .given .1))
+
+pub put-entries-spec : {M : Type 1} → statement M
+put-entries-spec =
+    tie.close
+    (tie.spec
+    Inv-loop
+    μ-loop
+    loop-holds
+    next-requires
+    enum-known-start
+    sub-put-listed
+    part-put-listed-start
+    part-put-listed-end
+    put-listed-requires
+    loop-less
+    loop-again
+    enum-told
+    same-length
+    returns
+    enum-told-2
+    same-length-2
+    returns-2)

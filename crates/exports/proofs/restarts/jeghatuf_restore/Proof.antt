@@ -1,0 +1,94 @@
+-- `exports::restarts::jeghatuf_restore` meets its contract: a number for each end, and a place where a record is refused.
+use borrow.Author.Needs.{needs}
+use Rattle.exports.proofs.Packs.{restore-done, restore-refused, restore-stopped, restore-nowhere}
+use Rattle.exports.proofs.restarts.jeghatuf_restore.Statement.{statement}
+use Rattle.exports.proofs.restarts.jeghatuf_restore.Tie as tie
+
+restore-requires : tie.Need-restore-requires
+restore-requires c κs = search needs
+
+enum-told : tie.Need-enum-told
+enum-told c = search needs
+
+enum-known-number : tie.Need-enum-known-number
+enum-known-number c = search needs
+
+wide-requires : tie.Need-wide-requires
+wide-requires c κs = search needs
+
+mul-result : tie.Need-mul-result
+mul-result c = search needs
+
+enum-known-number-2 : tie.Need-enum-known-number-2
+enum-known-number-2 c = search needs
+
+wide-requires-2 : tie.Need-wide-requires-2
+wide-requires-2 c κs = search needs
+
+mul-answer : tie.Need-mul-answer
+mul-answer c = search needs
+
+slice-write-place : tie.Need-slice-write-place
+slice-write-place c = search needs
+
+same-length : tie.Need-same-length
+same-length c = search needs
+
+returns : tie.Need-returns
+returns c =
+    let e = c .before .before .before .before .restore .ensures in
+    let p = restore-done (e .0) (c .enum-told .given .1) _ in
+    (p .0, (e .1, p .1))
+
+same-length-2 : tie.Need-same-length-2
+same-length-2 c = search needs
+
+returns-2 : tie.Need-returns-2
+returns-2 c =
+    let e = c .before .before .before .before .before .before .restore .ensures in
+    let p = restore-refused (e .0) (c .before .before .number .given .1) (c .wide .ensures) _ in
+    (p .0, (e .1, p .1))
+
+same-length-3 : tie.Need-same-length-3
+same-length-3 c = search needs
+
+same-length-4 : tie.Need-same-length-4
+same-length-4 c = search needs
+
+returns-3 : tie.Need-returns-3
+returns-3 c =
+    let e = c .before .before .before .before .before .before .before .restore .ensures in
+    let p = restore-stopped (e .0) (c .before .before .before .number2 .given .1) (c .before .wide2 .ensures) _ (c .if1 .taken) in
+    (p .0, (e .1, p .1))
+
+same-length-5 : tie.Need-same-length-5
+same-length-5 c = search needs
+
+returns-4 : tie.Need-returns-4
+returns-4 c =
+    let e = c .before .before .before .before .before .before .before .restore .ensures in
+    let p = restore-nowhere (e .0) (c .before .before .before .number2 .given .1) (c .before .wide2 .ensures) _ (c .if1 .left) in
+    (p .0, (e .1, p .1))
+
+pub jeghatuf-restore-spec : {M : Type 1} → statement M
+jeghatuf-restore-spec =
+    tie.close
+    (tie.spec
+    restore-requires
+    enum-told
+    enum-known-number
+    wide-requires
+    mul-result
+    enum-known-number-2
+    wide-requires-2
+    mul-answer
+    slice-write-place
+    same-length
+    returns
+    same-length-2
+    returns-2
+    same-length-3
+    same-length-4
+    returns-3
+    same-length-5
+    returns-4)

@@ -1,0 +1,48 @@
+// Snapshot, Restore and the records of a downgrade for programs in other languages.
+use crate::pack;
+use apply::Restored;
+use wire::wide;
+ghost use mathlib.Core.Path.{_≡_};
+ghost use Prim.Native.Nat.{_*_};
+ghost use Rattle.model.specs.Downgrade.{downgradeOf};
+ghost use Rattle.model.specs.Snapshot.{snapshotOf, restoreOf};
+ghost use Rattle.exports.specs.Exports.{packed};
+ghost use Rattle.exports.specs.Images.{widened};
+
+// An image's records into an output: the bytes written.
+#[no_mangle]
+pub extern "C" fn jeghatuf_snapshot(image: &[u8], out: &mut [u8]) -> u64
+    ensures { λ r. ⌜ r ≡ packed (snapshotOf (now (image .entry)) (now (out .entry)) .reply) ⌝ }
+    ensures { λ _. ⌜ now (out .exit) ≡ snapshotOf (now (image .entry)) (now (out .entry)) .buffer ⌝ }
+{
+    pack(snapshot::snapshot(image, out))
+}
+
+// Makes a buffer the image of the records of `input`. A record's refusal comes with its place, in the first of `place`.
+#[no_mangle]
+pub extern "C" fn jeghatuf_restore(image: &mut [u8], input: &[u8], place: &mut [u64]) -> u64
+    ensures { λ r. ⌜ r ≡ restoreOf (now (input .entry)) (now (image .entry)) .reply .number * 4294967296 ⌝ }
+    ensures { λ _. ⌜ now (image .exit) ≡ restoreOf (now (input .entry)) (now (image .entry)) .buffer ⌝ }
+    ensures { λ _. ⌜ now (place .exit) ≡ widened (restoreOf (now (input .entry)) (now (image .entry)) .reply) (now (place .entry)) ⌝ }
+{
+    match apply::restore(image, input) {
+        Restored::Done => 0,
+        Restored::Refused(number) => wide(number) * 0x1_0000_0000,
+        Restored::Stopped(number, at) => {
+            let answer = wide(number) * 0x1_0000_0000;
+            if place.len() > 0 {
+                place[0] = at as u64;
+            }
+            answer
+        }
+    }
+}
+
+// The records that take an image to a metadata level, by its 16 bits: the bytes written.
+#[no_mangle]
+pub extern "C" fn jeghatuf_downgrade(image: &[u8], level: u16, out: &mut [u8]) -> u64
+    ensures { λ r. ⌜ r ≡ packed (downgradeOf (now (image .entry)) level (now (out .entry)) .reply) ⌝ }
+    ensures { λ _. ⌜ now (out .exit) ≡ downgradeOf (now (image .entry)) level (now (out .entry)) .buffer ⌝ }
+{
+    pack(downgrade::downgrade(image, level, out))
+}

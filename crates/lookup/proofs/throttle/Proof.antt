@@ -1,0 +1,59 @@
+-- `lookup::throttle` meets its contract.
+use borrow.Author.Needs.{needs}
+use native.Mathlib.Omega.{arith}
+use Rattle.lookup.proofs.Answers.{throttle-no-image, image-is, leader-said, follower-said, dirs-said, no-such-rate}
+use Rattle.lookup.proofs.throttle.Statement.{statement}
+use Rattle.lookup.proofs.throttle.Tie as tie
+
+is-image-requires : tie.Need-is-image-requires
+is-image-requires c κs = search needs
+
+returns : tie.Need-returns
+returns c = throttle-no-image (c .before .before .before .args .image .now) (c .before .before .before .args .image .now) (c .before .is-image .ensures) (c .if1 .taken) _ _
+
+slice-aggregate-rate : tie.Need-slice-aggregate-rate
+slice-aggregate-rate c = search needs
+
+rate-requires : tie.Need-rate-requires
+rate-requires c κs = (image-is (c .before .before .before .before .before .args .image .now) (c .before .before .before .before .before .args .image .now) (c .before .before .before .is-image .ensures) (c .before .before .if1 .left), omega arith)
+
+slice-aggregate-rate-2 : tie.Need-slice-aggregate-rate-2
+slice-aggregate-rate-2 c = search needs
+
+rate-requires-2 : tie.Need-rate-requires-2
+rate-requires-2 c κs = (image-is (c .before .before .before .before .before .args .image .now) (c .before .before .before .before .before .args .image .now) (c .before .before .before .is-image .ensures) (c .before .before .if1 .left), omega arith)
+
+slice-aggregate-rate-3 : tie.Need-slice-aggregate-rate-3
+slice-aggregate-rate-3 c = search needs
+
+rate-requires-3 : tie.Need-rate-requires-3
+rate-requires-3 c κs = (image-is (c .before .before .before .before .before .args .image .now) (c .before .before .before .before .before .args .image .now) (c .before .before .before .is-image .ensures) (c .before .before .if1 .left), omega arith)
+
+returns-2 : tie.Need-returns-2
+returns-2 c = leader-said (c .before .before .before .before .before .before .args .image .now) (c .before .before .before .before .before .before .args .image .now) (c .before .before .before .before .is-image .ensures) (c .before .before .before .if1 .left) _ _ (c .before .before .match .keys1) (c .rate .ensures)
+
+returns-3 : tie.Need-returns-3
+returns-3 c = follower-said (c .before .before .before .before .before .before .args .image .now) (c .before .before .before .before .before .before .args .image .now) (c .before .before .before .before .is-image .ensures) (c .before .before .before .if1 .left) _ _ (c .before .before .match .keys2) (c .rate2 .ensures)
+
+returns-4 : tie.Need-returns-4
+returns-4 c = dirs-said (c .before .before .before .before .before .before .args .image .now) (c .before .before .before .before .before .before .args .image .now) (c .before .before .before .before .is-image .ensures) (c .before .before .before .if1 .left) _ _ (c .before .before .match .keys3) (c .rate3 .ensures)
+
+returns-5 : tie.Need-returns-5
+returns-5 c = no-such-rate (c .before .before .before .before .args .image .now) (c .before .before .before .before .args .image .now) (c .before .before .is-image .ensures) (c .before .if1 .left) _ _ (c .match .rest .0 .0 .1) (c .match .rest .0 .1) (c .match .rest .1)
+
+pub throttle-spec : {M : Type 1} → statement M
+throttle-spec =
+    tie.close
+    (tie.spec
+    is-image-requires
+    returns
+    slice-aggregate-rate
+    rate-requires
+    slice-aggregate-rate-2
+    rate-requires-2
+    slice-aggregate-rate-3
+    rate-requires-3
+    returns-2
+    returns-3
+    returns-4
+    returns-5)

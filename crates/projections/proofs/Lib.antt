@@ -1,0 +1,4 @@
+pub mod Growing
+pub mod Known
+pub mod Walks
+pub mod Projected

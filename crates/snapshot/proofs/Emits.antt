@@ -1,0 +1,112 @@
+-- What Snapshot writes: the records of the entries, of the epoch and of the kraft version, one after the other.
+use mathlib.Core.Path.{_≡_, refl, sym, ap, ap₂, _∙_}
+use mathlib.Core.Bool.{Bool, true, false, not}
+use mathlib.Core.List.{List, [], _∷_, _++_, map, append-assoc}
+use Prim.Native.Nat.{ℕ, _+_, _-_, _≤_, _<_}
+use native.Mathlib.Omega.{arith}
+use borrow.Author.Tests.{le-leb, lt-leb, not-true, not-false}
+use lib.ListN.{length, take, drop, length-append}
+use lib.Seq.{slice}
+use Rattle.model.specs.Choice.{joined}
+use Rattle.model.specs.Number.{Bytes}
+use Rattle.model.specs.Record.{Rec, recordBytes}
+use Rattle.model.specs.Contents.{Entry, shown, Fixed}
+use Rattle.model.specs.Image.{headSize, entryOf, fixedIn, contentsOf, isImage}
+use Rattle.model.specs.Reply.{Reply, accepted, refused, emitBytes}
+use Rattle.model.specs.Snapshot.{epochRecords, kraftRecords, trail, snapshot, emit, snapshotOf}
+use Rattle.laws.specs.Lists.{joined-append, joined-map}
+use Rattle.records.specs.Answers.{written}
+use Rattle.records.proofs.Written.{written-append, length-written}
+use Rattle.keys.proofs.Found.{lent-slice}
+use Rattle.entries.specs.Entries.{recordsIn, Entries}
+use Rattle.found.specs.Found.{AllKept}
+use Rattle.reals.specs.Reals.{Reals}
+use Rattle.snapshot.specs.Shown.{shownIn, epochBytes, kraftBytes}
+
+module _ (image : Bytes) {end : ℕ} (r : Reals image end) where
+  lent-part : take (end - headSize) (drop headSize image) ≡ slice headSize end image
+  lent-part = lent-slice image headSize end (r .low)
+
+  pub lent-entries : Entries (take (end - headSize) (drop headSize image))
+  lent-entries = rw lent-part (r .entries)
+
+  pub lent-kept : AllKept (recordsIn (take (end - headSize) (drop headSize image)))
+  lent-kept = rw lent-part (r .keeps)
+
+  module _ {epoch kraft : ℕ} (ee : epoch ≡ fixedIn image .epoch) (ek : kraft ≡ fixedIn image .kraft) where
+    -- the bytes of all records
+    all-bytes : joined recordBytes (snapshot (contentsOf image)) ≡ shownIn (take (end - headSize) (drop headSize image)) ++ (epochBytes epoch ++ kraftBytes kraft)
+    unfolding snapshot contentsOf
+    all-bytes =
+        let body : joined recordBytes (map shown (contentsOf image .real)) ≡ shownIn (take (end - headSize) (drop headSize image)) =
+        joined-map recordBytes shown (contentsOf image .real)
+        ∙ ap (joined (λ e. recordBytes (shown e))) (r .held ∙ ap (λ s. map entryOf (recordsIn s)) (sym lent-part))
+        ∙ joined-map (λ e. recordBytes (shown e)) entryOf (recordsIn (take (end - headSize) (drop headSize image))) in
+        joined-append recordBytes (map shown (contentsOf image .real)) (trail (fixedIn image))
+        ∙ ap₂ (λ x y. x ++ y) body (joined-append recordBytes (epochRecords (fixedIn image .epoch)) (kraftRecords (fixedIn image .kraft)) ∙ rw (ee, ek) refl)
+
+    module _ (out : Bytes) {a b c : ℕ} (ea : a ≡ length (shownIn (take (end - headSize) (drop headSize image)))) (eb : b ≡ length (epochBytes epoch)) (ec : c ≡ length (kraftBytes kraft)) where
+      long : a + b + c ≡ length (shownIn (take (end - headSize) (drop headSize image)) ++ (epochBytes epoch ++ kraftBytes kraft))
+      long = omega (arith, ea, eb, ec, length-append (shownIn (take (end - headSize) (drop headSize image))) (epochBytes epoch ++ kraftBytes kraft), length-append (epochBytes epoch) (kraftBytes kraft))
+
+      pub too-short : length out < a + b + c → (refused 19 ≡ emit (snapshot (contentsOf image)) out .reply) × (out ≡ emit (snapshot (contentsOf image)) out .buffer)
+      unfolding emit emitBytes
+      too-short h = rw (all-bytes, ← long, lt-leb (a + b + c) (length out) h) (refl, refl)
+
+      module _ (fits : a + b + c ≤ length out) where
+        pub entries-fit : length (shownIn (take (end - headSize) (drop headSize image))) ≤ length out
+        entries-fit = omega (arith, ea)
+
+        module _ {w : Bytes} {n : ℕ} (pe : (n ≡ length (shownIn (take (end - headSize) (drop headSize image)))) × (w ≡ written out 0 (shownIn (take (end - headSize) (drop headSize image))))) where
+          length-w : length w ≡ length out
+          length-w = ap length (pe .1) ∙ length-written out 0 (shownIn (take (end - headSize) (drop headSize image))) (omega (arith, ea))
+
+          pub epoch-fits : n + length (epochBytes epoch) ≤ length w
+          epoch-fits = omega (arith, pe .0, ea, eb, length-w)
+
+          module _ {v : Bytes} {m : ℕ} (pp : (m ≡ n + length (epochBytes epoch)) × (v ≡ written w n (epochBytes epoch))) where
+            length-v : length v ≡ length w
+            length-v = ap length (pp .1) ∙ length-written w n (epochBytes epoch) epoch-fits
+
+            pub kraft-fits : m + length (kraftBytes kraft) ≤ length v
+            kraft-fits = omega (arith, pp .0, pe .0, ea, eb, ec, length-w, length-v)
+
+            pub emitted : {u : Bytes} {k : ℕ} → (k ≡ m + length (kraftBytes kraft)) × (u ≡ written v m (kraftBytes kraft))
+                → (accepted (k ∷ []) ≡ emit (snapshot (contentsOf image)) out .reply) × (u ≡ emit (snapshot (contentsOf image)) out .buffer)
+            unfolding emit emitBytes
+            emitted {u} {k} pk =
+                let s = shownIn (take (end - headSize) (drop headSize image)) in
+                let e = epochBytes epoch in
+                let f = kraftBytes kraft in
+                let n-end : n ≡ 0 + length s = omega (arith, pe .0) in
+                let first : v ≡ written out 0 (s ++ e) =
+                pp .1
+                ∙ ap₂ (λ x y. written x y e) (pe .1) n-end
+                ∙ written-append out 0 s (omega (arith, ea)) e in
+                let m-end : m ≡ 0 + length (s ++ e) = omega (arith, pp .0, pe .0, length-append s e) in
+                let second : u ≡ written out 0 (s ++ (e ++ f)) =
+                pk .1
+                ∙ ap₂ (λ x y. written x y f) first m-end
+                ∙ written-append out 0 (s ++ e) (omega (arith, ea, eb, length-append s e)) f
+                ∙ ap (written out 0) (append-assoc s e f) in
+                let all : k ≡ length (s ++ (e ++ f)) = omega (arith, pk .0, pp .0, pe .0, length-append s (e ++ f), length-append e f) in
+                let whole : 0 + length (s ++ (e ++ f)) ≡ length (s ++ (e ++ f)) = omega arith in
+                rw (all-bytes, le-leb (length (s ++ (e ++ f))) (length out) (omega (arith, long))) (
+                  ap (λ x. accepted (x ∷ [])) all,
+                  second ∙ ap (λ x. (s ++ (e ++ f)) ++ drop x out) whole,
+                )
+
+-- the exits of Snapshot
+module _ (image out : Bytes) {b : Bool} (eb : b ≡ isImage image) where
+  pub no-image : not b ≡ true → (refused 1 ≡ snapshotOf image out .reply) × (out ≡ snapshotOf image out .buffer)
+  unfolding snapshotOf
+  no-image h = rw (sym eb ∙ not-true b h) (refl, refl)
+
+  module _ (h : not b ≡ false) where
+    pub image-is : isImage image ≡ true
+    image-is = sym eb ∙ not-false b h
+
+    pub said : {x : Reply} {v : Bytes} → (x ≡ emit (snapshot (contentsOf image)) out .reply) × (v ≡ emit (snapshot (contentsOf image)) out .buffer)
+        → (x ≡ snapshotOf image out .reply) × (v ≡ snapshotOf image out .buffer)
+    unfolding snapshotOf
+    said q = rw image-is q

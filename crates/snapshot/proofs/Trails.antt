@@ -1,0 +1,66 @@
+-- The records of the fixed parts.
+use mathlib.Core.Path.{_≡_, refl, sym, ap, _∙_}
+use mathlib.Core.Bool.{Bool, true, false, cond}
+use mathlib.Core.List.{[], _++_, append-assoc}
+use Prim.Native.Nat.{ℕ, _+_, _≤_, _<_}
+use native.Mathlib.Omega.{arith}
+use borrow.Author.Tests.{lt-leb, le-leb, ne-eqb}
+use lib.Dec.{eqb}
+use lib.ListN.{length, take, drop}
+use Rattle.model.specs.Choice.{joined}
+use Rattle.model.specs.Number.{Bytes, bytes, half}
+use Rattle.model.specs.Run.{bytesOf}
+use Rattle.model.specs.Kind.{kindNumber}
+use Rattle.model.specs.Record.{recordBytes}
+use Rattle.model.specs.Snapshot.{epochRecords, kraftRecords}
+use Rattle.laws.specs.Numbers.{length-bytes}
+use Rattle.records.specs.Answers.{written, head}
+use Rattle.records.proofs.Written.{written-nothing, written-append, length-written}
+use Rattle.snapshot.specs.Shown.{numberBytes, epochBytes, kraftBytes}
+
+-- 1. One number
+
+pub number-written : (out : Bytes) (at kind width n : ℕ) → at + 6 + width ≤ length out → {a b c : Bytes} → a ≡ written out at (head kind (3 + width))
+    → b ≡ written a (at + 3) (head 1 width) → c ≡ take (at + 6) b ++ bytes width n ++ drop (at + 6 + width) b → c ≡ written out at (numberBytes kind width n)
+number-written out at kind width n fits {a} {b} {c} ea eb ec =
+    let first : b ≡ written out at (head kind (3 + width) ++ head 1 width) =
+    eb ∙ rw ea (written-append out at (head kind (3 + width)) (omega arith) (head 1 width)) in
+    let six : at + 6 ≡ at + length (head kind (3 + width) ++ head 1 width) = omega arith in
+    ec
+    ∙ ap (λ k. take (at + 6) b ++ bytes width n ++ drop (at + 6 + k) b) (sym (length-bytes width n))
+    ∙ ap (λ x. written x (at + 6) (bytes width n)) first
+    ∙ ap (λ x. written (written out at (head kind (3 + width) ++ head 1 width)) x (bytes width n)) six
+    ∙ written-append out at (head kind (3 + width) ++ head 1 width) (omega arith) (bytes width n)
+    ∙ ap (written out at) (append-assoc (head kind (3 + width)) (head 1 width) (bytes width n))
+
+pub length-number : (kind width n : ℕ) → length (numberBytes kind width n) ≡ 6 + width
+length-number kind width n = omega (arith, length-bytes width n)
+
+-- 2. The epoch, unless it is negative
+
+pub epoch-some : (e : ℕ) → e < half 8 → epochBytes e ≡ numberBytes 13 8 e
+unfolding epochRecords recordBytes bytesOf kindNumber
+epoch-some e h = rw (lt-leb (half 8) e h) refl
+
+pub epoch-none : (e : ℕ) → half 8 ≤ e → epochBytes e ≡ []
+unfolding epochRecords
+epoch-none e h = rw (le-leb (half 8) e h) refl
+
+-- 3. The kraft version, unless it is 0
+
+pub kraft-some : (v : ℕ) → (v ≡ 0 → ⊥) → kraftBytes v ≡ numberBytes 10 2 v
+unfolding kraftRecords recordBytes bytesOf kindNumber
+kraft-some v h = rw (ne-eqb v 0 h) refl
+
+pub kraft-none : (v : ℕ) → v ≡ 0 → kraftBytes v ≡ []
+unfolding kraftRecords
+kraft-none v h = rw h refl
+
+-- what is written where there is a record, and where there is none
+module _ {s : Bytes} (out : Bytes) (at : ℕ) where
+  pub put-some : (kind width n : ℕ) → s ≡ numberBytes kind width n → {r : ℕ} {w : Bytes} → (r ≡ at + 6 + width) × (w ≡ written out at (numberBytes kind width n))
+      → (r ≡ at + length s) × (w ≡ written out at s)
+  put-some kind width n e h = rw e (omega (arith, h .0, length-bytes width n), h .1)
+
+  pub put-none : s ≡ [] → (at ≡ at + length s) × (out ≡ written out at s)
+  put-none e = rw e (omega arith, sym (written-nothing out at))

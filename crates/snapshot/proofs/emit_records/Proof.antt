@@ -1,0 +1,90 @@
+-- `snapshot::emit_records` meets its contract.
+use borrow.Author.Needs.{needs}
+use Rattle.snapshot.proofs.Emits.{lent-entries, lent-kept, too-short, entries-fit, emitted}
+use Rattle.snapshot.proofs.emit_records.Statement.{statement}
+use Rattle.snapshot.proofs.emit_records.Tie as tie
+
+reals-end-requires : tie.Need-reals-end-requires
+reals-end-requires c κs = search needs
+
+epoch-in-requires : tie.Need-epoch-in-requires
+epoch-in-requires c κs = search needs
+
+kraft-in-requires : tie.Need-kraft-in-requires
+kraft-in-requires c κs = search needs
+
+sub-shown-length : tie.Need-sub-shown-length
+sub-shown-length c = search needs
+
+part-shown-length-start : tie.Need-part-shown-length-start
+part-shown-length-start c = search needs
+
+part-shown-length-end : tie.Need-part-shown-length-end
+part-shown-length-end c = search needs
+
+shown-length-requires : tie.Need-shown-length-requires
+shown-length-requires c κs = (lent-entries (c .before .before .before .before .before .before .args .image .now) (c .before .before .before .reals-end .ensures), lent-kept (c .before .before .before .before .before .before .args .image .now) (c .before .before .before .reals-end .ensures))
+
+epoch-length-requires : tie.Need-epoch-length-requires
+epoch-length-requires c κs = search needs
+
+add-n : tie.Need-add-n
+add-n c = search needs
+
+kraft-length-requires : tie.Need-kraft-length-requires
+kraft-length-requires c κs = search needs
+
+add-n-2 : tie.Need-add-n-2
+add-n-2 c = search needs
+
+returns : tie.Need-returns
+returns c = too-short (c .before .before .before .before .before .before .before .before .before .before .args .image .now) (c .before .before .before .before .before .before .before .reals-end .ensures) (c .before .before .before .before .before .before .epoch-in .ensures) (c .before .before .before .before .before .kraft-in .ensures) (c .before .before .before .before .before .before .before .before .before .before .args .out .now) (c .before .before .before .shown-length .ensures .0) (c .before .before .epoch-length .ensures .0) (c .before .kraft-length .ensures .0) (c .if1 .taken)
+
+sub-put-entries : tie.Need-sub-put-entries
+sub-put-entries c = search needs
+
+part-put-entries-start : tie.Need-part-put-entries-start
+part-put-entries-start c = search needs
+
+part-put-entries-end : tie.Need-part-put-entries-end
+part-put-entries-end c = search needs
+
+put-entries-requires : tie.Need-put-entries-requires
+put-entries-requires c κs = (lent-entries (c .before .before .before .before .before .before .before .before .before .before .before .before .args .image .now) (c .before .before .before .before .before .before .before .before .before .reals-end .ensures), lent-kept (c .before .before .before .before .before .before .before .before .before .before .before .before .args .image .now) (c .before .before .before .before .before .before .before .before .before .reals-end .ensures), entries-fit (c .before .before .before .before .before .before .before .before .before .before .before .before .args .image .now) (c .before .before .before .before .before .before .before .before .before .reals-end .ensures) (c .before .before .before .before .before .before .before .before .epoch-in .ensures) (c .before .before .before .before .before .before .before .kraft-in .ensures) (c .before .before .before .before .before .before .before .before .before .before .before .before .args .out .now) (c .before .before .before .before .before .shown-length .ensures .0) (c .before .before .before .before .epoch-length .ensures .0) (c .before .before .before .kraft-length .ensures .0) (c .before .before .if1 .left))
+
+put-epoch-requires : tie.Need-put-epoch-requires
+put-epoch-requires c κs = search needs
+
+put-kraft-requires : tie.Need-put-kraft-requires
+put-kraft-requires c κs = search needs
+
+same-length : tie.Need-same-length
+same-length c = search needs
+
+returns-2 : tie.Need-returns-2
+returns-2 c = emitted (c .before .before .before .before .before .before .before .before .before .before .before .before .before .before .before .before .before .before .before .before .before .before .before .args .image .now) (c .before .before .before .before .before .before .before .before .before .before .before .before .before .before .before .before .before .before .before .before .reals-end .ensures) (c .before .before .before .before .before .before .before .before .before .before .before .before .before .before .before .before .before .before .before .epoch-in .ensures) (c .before .before .before .before .before .before .before .before .before .before .before .before .before .before .before .before .before .before .kraft-in .ensures) (c .before .before .before .before .before .before .before .before .before .before .before .before .before .before .before .before .before .before .before .before .before .before .before .args .out .now) (c .before .before .before .before .before .before .before .before .before .before .before .before .before .before .before .before .shown-length .ensures .0) (c .before .before .before .before .before .before .before .before .before .before .before .before .before .before .before .epoch-length .ensures .0) (c .before .before .before .before .before .before .before .before .before .before .before .before .before .before .kraft-length .ensures .0) (c .before .before .before .before .before .before .before .before .before .before .before .before .before .if1 .left) (c .before .before .before .before .before .before .before .before .before .before .put-entries .ensures) (c .before .before .before .before .before .before .put-epoch .ensures) (c .before .before .put-kraft .ensures)
+
+pub emit-records-spec : {M : Type 1} → statement M
+emit-records-spec =
+    tie.close
+    (tie.spec
+    reals-end-requires
+    epoch-in-requires
+    kraft-in-requires
+    sub-shown-length
+    part-shown-length-start
+    part-shown-length-end
+    shown-length-requires
+    epoch-length-requires
+    add-n
+    kraft-length-requires
+    add-n-2
+    returns
+    sub-put-entries
+    part-put-entries-start
+    part-put-entries-end
+    put-entries-requires
+    put-epoch-requires
+    put-kraft-requires
+    same-length
+    returns-2)

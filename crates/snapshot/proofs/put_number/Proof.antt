@@ -1,0 +1,51 @@
+-- `snapshot::put_number` meets its contract.
+use borrow.Author.Needs.{needs}
+use mathlib.Core.Path.{refl}
+use Rattle.snapshot.proofs.Trails.{number-written}
+use Rattle.snapshot.proofs.put_number.Statement.{statement}
+use Rattle.snapshot.proofs.put_number.Tie as tie
+
+add-put-head : tie.Need-add-put-head
+add-put-head c = search needs
+
+put-head-requires : tie.Need-put-head-requires
+put-head-requires c κs = search needs
+
+add-put-head-2 : tie.Need-add-put-head-2
+add-put-head-2 c = search needs
+
+put-head-requires-2 : tie.Need-put-head-requires-2
+put-head-requires-2 c κs = search needs
+
+add-put : tie.Need-add-put
+add-put c = search needs
+
+put-requires : tie.Need-put-requires
+put-requires c κs = search needs
+
+add-result : tie.Need-add-result
+add-result c = search needs
+
+add-result-2 : tie.Need-add-result-2
+add-result-2 c = search needs
+
+same-length : tie.Need-same-length
+same-length c = search needs
+
+returns : tie.Need-returns
+returns c = (refl, number-written (c .before .before .before .before .before .before .before .before .before .before .before .before .before .args .out .now) _ _ _ _ (c .before .before .before .before .before .before .before .before .before .before .before .before .before .pre .1) (c .before .before .before .before .before .before .before .before .before .before .put-head .ensures) (c .before .before .before .before .before .before .put-head2 .ensures) (c .before .before .put .ensures))
+
+pub put-number-spec : {M : Type 1} → statement M
+put-number-spec =
+    tie.close
+    (tie.spec
+    add-put-head
+    put-head-requires
+    add-put-head-2
+    put-head-requires-2
+    add-put
+    put-requires
+    add-result
+    add-result-2
+    same-length
+    returns)
