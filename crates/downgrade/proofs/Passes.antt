@@ -13,7 +13,7 @@ use Rattle.entries.proofs.Turns.{Stands}
 use Rattle.stored.proofs.Turns.{forward, inside, entry-is, next-at, past-end}
 use Rattle.keys.proofs.Found.{lent-slice}
 use Rattle.records.specs.Answers.{written}
-use Rattle.projections.proofs.Growing.{Growing, grow-start, part-fits, grow, grown}
+use Rattle.records.proofs.Growing.{Growing, grow-start, part-fits, grow, grown}
 use Rattle.downgrade.specs.Listed.{listedBytes, listedIn}
 
 -- 1. The entries to come

@@ -1,4 +1,3 @@
-pub mod Growing
 pub mod Known
 pub mod Walks
 pub mod Projected

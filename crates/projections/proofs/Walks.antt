@@ -15,7 +15,7 @@ use Rattle.keys.specs.Keys.{runIn}
 use Rattle.records.specs.Answers.{written}
 use Rattle.keys.proofs.Found.{lent-slice, slice-rest}
 use Rattle.projections.specs.Known.{emptied, known, knownField, knownSize}
-use Rattle.projections.proofs.Growing.{Growing, grow-start, part-fits, grow, grown}
+use Rattle.records.proofs.Growing.{Growing, grow-start, part-fits, grow, grown}
 use Rattle.projections.proofs.Known.{known-item, length-field, known-low}
 
 -- 1. The cursor

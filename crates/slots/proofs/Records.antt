@@ -15,7 +15,7 @@ use Rattle.laws_records.specs.Runs.{length-item}
 use Rattle.laws_records.specs.Records.{length-record}
 use Rattle.records.specs.Answers.{written, head}
 use Rattle.records.proofs.Written.{written-nothing}
-use Rattle.projections.proofs.Growing.{Growing, grow-start, part-fits, rest-fits, grow, grown}
+use Rattle.records.proofs.Growing.{Growing, grow-start, part-fits, rest-fits, grow, grown}
 use Rattle.slots.specs.Slots.{assigning, slotBytes, slotSize}
 
 abbrev field : ℕ → Bytes → Bytes

@@ -10,7 +10,7 @@ use Rattle.model.specs.Number.{Bytes}
 use Rattle.model.specs.Order.{sameBytes}
 use Rattle.model.specs.Downgrade.{migrating}
 use Rattle.records.specs.Answers.{written}
-use Rattle.projections.proofs.Growing.{Growing, grow-start, part-fits, grow, grown}
+use Rattle.records.proofs.Growing.{Growing, grow-start, part-fits, grow, grown}
 use Rattle.slots.specs.Slots.{slotBytes, slotsBytes, slotSize, slotsSize}
 
 -- 1. A slot of a list, as it is lent, and the list after it

@@ -1,7 +1,7 @@
 -- What Snapshot writes: the records of the entries, of the epoch and of the kraft version, one after the other.
 use mathlib.Core.Path.{_≡_, refl, sym, ap, ap₂, _∙_}
 use mathlib.Core.Bool.{Bool, true, false, not}
-use mathlib.Core.List.{List, [], _∷_, _++_, map, append-assoc}
+use mathlib.Core.List.{List, [], _∷_, _++_, map, append-nil}
 use Prim.Native.Nat.{ℕ, _+_, _-_, _≤_, _<_}
 use native.Mathlib.Omega.{arith}
 use borrow.Author.Tests.{le-leb, lt-leb, not-true, not-false}
@@ -16,12 +16,12 @@ use Rattle.model.specs.Reply.{Reply, accepted, refused, emitBytes}
 use Rattle.model.specs.Snapshot.{epochRecords, kraftRecords, trail, snapshot, emit, snapshotOf}
 use Rattle.laws.specs.Lists.{joined-append, joined-map}
 use Rattle.records.specs.Answers.{written}
-use Rattle.records.proofs.Written.{written-append, length-written}
 use Rattle.keys.proofs.Found.{lent-slice}
 use Rattle.entries.specs.Entries.{recordsIn, Entries}
 use Rattle.found.specs.Found.{AllKept}
 use Rattle.reals.specs.Reals.{Reals}
 use Rattle.snapshot.specs.Shown.{shownIn, epochBytes, kraftBytes}
+use Rattle.records.proofs.Growing.{Growing, grow-start, part-fits, rest-fits, grow, grown}
 
 module _ (image : Bytes) {end : ℕ} (r : Reals image end) where
   lent-part : take (end - headSize) (drop headSize image) ≡ slice headSize end image
@@ -58,43 +58,31 @@ module _ (image : Bytes) {end : ℕ} (r : Reals image end) where
         entries-fit = omega (arith, ea)
 
         module _ {w : Bytes} {n : ℕ} (pe : (n ≡ length (shownIn (take (end - headSize) (drop headSize image)))) × (w ≡ written out 0 (shownIn (take (end - headSize) (drop headSize image))))) where
-          length-w : length w ≡ length out
-          length-w = ap length (pe .1) ∙ length-written out 0 (shownIn (take (end - headSize) (drop headSize image))) (omega (arith, ea))
+          first : Growing out w 0 n (shownIn (take (end - headSize) (drop headSize image)) ++ (epochBytes epoch ++ kraftBytes kraft)) (epochBytes epoch ++ kraftBytes kraft)
+          first =
+              let s = shownIn (take (end - headSize) (drop headSize image)) in
+              let t = epochBytes epoch ++ kraftBytes kraft in
+              grow (grow-start out 0 (s ++ t) (omega (arith, long))) s t refl (omega (arith, pe .0), pe .1)
 
           pub epoch-fits : n + length (epochBytes epoch) ≤ length w
-          epoch-fits = omega (arith, pe .0, ea, eb, length-w)
+          epoch-fits = part-fits first (epochBytes epoch) (kraftBytes kraft) refl
 
           module _ {v : Bytes} {m : ℕ} (pp : (m ≡ n + length (epochBytes epoch)) × (v ≡ written w n (epochBytes epoch))) where
-            length-v : length v ≡ length w
-            length-v = ap length (pp .1) ∙ length-written w n (epochBytes epoch) epoch-fits
+            second : Growing out v 0 m (shownIn (take (end - headSize) (drop headSize image)) ++ (epochBytes epoch ++ kraftBytes kraft)) (kraftBytes kraft)
+            second = grow first (epochBytes epoch) (kraftBytes kraft) refl pp
 
             pub kraft-fits : m + length (kraftBytes kraft) ≤ length v
-            kraft-fits = omega (arith, pp .0, pe .0, ea, eb, ec, length-w, length-v)
+            kraft-fits = rest-fits second
 
             pub emitted : {u : Bytes} {k : ℕ} → (k ≡ m + length (kraftBytes kraft)) × (u ≡ written v m (kraftBytes kraft))
                 → (accepted (k ∷ []) ≡ emit (snapshot (contentsOf image)) out .reply) × (u ≡ emit (snapshot (contentsOf image)) out .buffer)
             unfolding emit emitBytes
             emitted {u} {k} pk =
-                let s = shownIn (take (end - headSize) (drop headSize image)) in
-                let e = epochBytes epoch in
-                let f = kraftBytes kraft in
-                let n-end : n ≡ 0 + length s = omega (arith, pe .0) in
-                let first : v ≡ written out 0 (s ++ e) =
-                pp .1
-                ∙ ap₂ (λ x y. written x y e) (pe .1) n-end
-                ∙ written-append out 0 s (omega (arith, ea)) e in
-                let m-end : m ≡ 0 + length (s ++ e) = omega (arith, pp .0, pe .0, length-append s e) in
-                let second : u ≡ written out 0 (s ++ (e ++ f)) =
-                pk .1
-                ∙ ap₂ (λ x y. written x y f) first m-end
-                ∙ written-append out 0 (s ++ e) (omega (arith, ea, eb, length-append s e)) f
-                ∙ ap (written out 0) (append-assoc s e f) in
-                let all : k ≡ length (s ++ (e ++ f)) = omega (arith, pk .0, pp .0, pe .0, length-append s (e ++ f), length-append e f) in
-                let whole : 0 + length (s ++ (e ++ f)) ≡ length (s ++ (e ++ f)) = omega arith in
-                rw (all-bytes, le-leb (length (s ++ (e ++ f))) (length out) (omega (arith, long))) (
-                  ap (λ x. accepted (x ∷ [])) all,
-                  second ∙ ap (λ x. (s ++ (e ++ f)) ++ drop x out) whole,
-                )
+                let s = shownIn (take (end - headSize) (drop headSize image)) ++ (epochBytes epoch ++ kraftBytes kraft) in
+                let all = grown (grow second (kraftBytes kraft) [] (sym (append-nil (kraftBytes kraft))) pk) refl in
+                let whole : 0 + length s ≡ length s = omega arith in
+                rw (all-bytes, le-leb (length s) (length out) (omega (arith, long)))
+                (ap (λ x. accepted (x ∷ [])) (all .0 ∙ whole), all .1 ∙ ap (λ x. s ++ drop x out) whole)
 
 -- the exits of Snapshot
 module _ (image out : Bytes) {b : Bool} (eb : b ≡ isImage image) where

@@ -45,7 +45,7 @@ impl Inputs {
         self.seed += 1;
     }
 
-    pub fn next(&mut self) -> Vec<u8> {
+    pub fn draw(&mut self) -> Vec<u8> {
         if self.waiting.is_empty() {
             self.refill();
         }

@@ -7,7 +7,7 @@ use Rattle.model.specs.Number.{AreBytes}
 use Rattle.keys.proofs.Keys.{known-bytes}
 use Rattle.entries.proofs.Turns.{Stands, stands, ended, not-torn, turn-falls}
 use Rattle.stored.proofs.Turns.{forward, inside, is-record}
-use Rattle.projections.proofs.Growing.{grown-length}
+use Rattle.records.proofs.Growing.{grown-length}
 use Rattle.downgrade.proofs.Passes.{Wrote, write-start, entry-fits, write-turn, wrote}
 use Rattle.downgrade.proofs.put_entries.Statement.{statement}
 use Rattle.downgrade.proofs.put_entries.Tie as tie

@@ -3,7 +3,7 @@ use borrow.Author.Needs.{needs}
 use Prim.Native.Nat.{_-_}
 use native.Mathlib.Omega.{arith}
 use Rattle.fields.proofs.Took.{Moved, took, tore, ended, moved}
-use Rattle.projections.proofs.Growing.{grown-length}
+use Rattle.records.proofs.Growing.{grown-length}
 use Rattle.projections.proofs.Walks.{Wrote, write-start, inside, not-torn, falls, ends-inside, known-fits, write-turn, wrote}
 use Rattle.projections.proofs.put_run.Statement.{statement}
 use Rattle.projections.proofs.put_run.Tie as tie

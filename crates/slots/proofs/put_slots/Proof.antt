@@ -1,7 +1,7 @@
 -- `slots::put_slots` meets its contract. The invariant: what is written, and the records to come, are all.
 use Prim.Native.Nat.{_-_}
 use native.Mathlib.Omega.{arith}
-use Rattle.projections.proofs.Growing.{grown-length}
+use Rattle.records.proofs.Growing.{grown-length}
 use Rattle.slots.proofs.Walks.{Wrote, write-start, slot-room, write-turn, wrote}
 use Rattle.slots.proofs.put_slots.Statement.{statement}
 use Rattle.slots.proofs.put_slots.Tie as tie

@@ -1,25 +1,24 @@
 -- `snapshot::shown_length` meets its contract: the records of the entries that are passed are counted.
-use Prim.Native.Nat.{_+_, _-_}
+use Prim.Native.Nat.{_-_}
 use native.Mathlib.Omega.{arith}
 use borrow.Author.Needs.{needs}
-use mathlib.Core.Path.{ap}
 use lib.ListN.{length}
 use Rattle.model.specs.Number.{AreBytes}
 use Rattle.keys.proofs.Keys.{known-bytes}
 use Rattle.entries.proofs.Turns.{Stands, stands, ended, not-torn, turn-falls}
 use Rattle.stored.proofs.Turns.{forward, inside}
-use Rattle.snapshot.proofs.Passes.{Passed, passed-start, all-size, all-low, here-entire, room, passed-more}
+use Rattle.snapshot.proofs.Passes.{here-entire, Counted, count-start, counted, count-fits, count-turn}
 use Rattle.snapshot.proofs.shown_length.Statement.{statement}
 use Rattle.snapshot.proofs.shown_length.Tie as tie
 
 abbrev Inv-loop : tie.InvT-loop
-Inv-loop s c₀ n₀ c n = Passed s (c .at) n
+Inv-loop s c₀ n₀ c n = Counted s (c .at) n
 
 abbrev μ-loop : tie.MeasureT-loop
 μ-loop s c₀ n₀ c n = length s - c .at
 
 loop-holds : tie.Need-loop-holds Inv-loop μ-loop
-loop-holds c = passed-start _ (c .before .pre .0) (c .before .pre .1)
+loop-holds c = count-start _ (c .before .pre .0) (c .before .pre .1)
 
 next-requires : tie.Need-next-requires Inv-loop μ-loop
 next-requires c κs = search needs
@@ -37,7 +36,7 @@ entry : (c : tie.After-start Inv-loop μ-loop)
     Stands (c .before .before .before .before .before .args .s .now) (c .before .before .before .loop .c .at) (g .0) (g .1 .0) (g .1 .1 .0))
 entry c =
     let n = c .before .before in
-    stands _ (bytes-in n) _ (n .before .loop .inv .entries) (n .next .ensures) (c .start .given .1)
+    stands _ (bytes-in n) _ (n .before .loop .inv .ahead .entries) (n .next .ensures) (c .start .given .1)
 
 sub-shown-size : tie.Need-sub-shown-size Inv-loop μ-loop
 sub-shown-size c = forward (entry (c .before))
@@ -49,12 +48,12 @@ part-shown-size-end : tie.Need-part-shown-size-end Inv-loop μ-loop
 part-shown-size-end c = let t = entry (c .before) in omega (arith, forward t, inside t)
 
 shown-size-requires : tie.Need-shown-size-requires Inv-loop μ-loop
-shown-size-requires c κs = here-entire (c .before .before .before .before .before .loop .inv) (entry (c .before .before))
+shown-size-requires c κs = here-entire (entry (c .before .before))
 
 add-n : tie.Need-add-n Inv-loop μ-loop
 add-n c =
     let f = c .before .before .before in
-    omega (arith, room (f .before .before .before .loop .inv) (entry f), c .shown-size .ensures)
+    omega (arith, count-fits (f .before .before .before .loop .inv) (entry f) (c .shown-size .ensures))
 
 loop-less : tie.Need-loop-less Inv-loop μ-loop
 loop-less c = turn-falls _ _ _ _ _ (entry (c .before .before .before))
@@ -62,7 +61,7 @@ loop-less c = turn-falls _ _ _ _ _ (entry (c .before .before .before))
 loop-again : tie.Need-loop-again Inv-loop μ-loop
 loop-again c =
     let f = c .before .before .before in
-    passed-more (f .before .before .before .loop .inv) (entry f) (ap (λ x. f .before .before .before .loop .n + x) (c .shown-size .ensures))
+    count-turn (f .before .before .before .loop .inv) (entry f) (c .shown-size .ensures)
 
 enum-told : tie.Need-enum-told Inv-loop μ-loop
 enum-told c = search needs
@@ -70,7 +69,7 @@ enum-told c = search needs
 returns : tie.Need-returns Inv-loop μ-loop
 returns c =
     let n = c .before .before in
-    not-torn _ (bytes-in n) _ (n .before .loop .inv .entries) (n .next .ensures) (c .enum-told .given .1)
+    not-torn _ (bytes-in n) _ (n .before .loop .inv .ahead .entries) (n .next .ensures) (c .enum-told .given .1)
 
 enum-told-2 : tie.Need-enum-told-2 Inv-loop μ-loop
 enum-told-2 c = search needs
@@ -79,8 +78,7 @@ returns-2 : tie.Need-returns-2 Inv-loop μ-loop
 returns-2 c =
     let n = c .before .before in
     let h = n .before .loop .inv in
-    let past = ended _ (bytes-in n) _ (h .entries) (n .next .ensures) (c .enum-told2 .given .1) in
-    (all-size h past, all-low h)
+    counted h (ended _ (bytes-in n) _ (h .ahead .entries) (n .next .ensures) (c .enum-told2 .given .1))
 
 pub shown-length-spec : {M : Type 1} → statement M
 shown-length-spec =

@@ -1,4 +1,5 @@
-//! Compares Open, the exact test and the lookups of the proved library with the
+//! Compares Open, the exact test, Validate, the lookups, Snapshot and the listing
+//! for a downgrade of the proved library with the
 //! harness's own answers and the reference's images, on as many generated
 //! histories as the first argument says (default: 100), from the seed that the
 //! second says (default: 1). Ends with 1 at the first difference.
@@ -9,7 +10,7 @@ use std::env;
 use std::process::ExitCode;
 
 use differential::images::{
-    Compared, Tally, compare_cases, compare_history, compare_open, compare_random,
+    Compared, Tally, compare_cases, compare_history, compare_listing, compare_open, compare_random,
 };
 
 /// The random buffers for each history.
@@ -34,6 +35,7 @@ fn main() -> ExitCode {
 fn compare(tally: &mut Tally, histories: u64, seed: u64) -> Compared {
     compare_open(tally, seed)?;
     compare_cases(tally)?;
+    compare_listing(tally)?;
     for seed in seed..seed + histories {
         compare_history(tally, seed).map_err(|difference| format!("seed {seed}: {difference}"))?;
         for draw in 0..RANDOM {

@@ -15,7 +15,7 @@ fn main() {
     let mut inputs = Inputs::new(args.next().unwrap_or(1));
     let (mut read, mut written) = ([0u64; 256], [0u64; 256]);
     for _ in 0..count {
-        let input = inputs.next();
+        let input = inputs.draw();
         read[compare_read(&input)] += 1;
         let lists = inputs.lists(&input);
         written[compare_write(lists)] += 1;

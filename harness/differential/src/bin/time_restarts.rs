@@ -40,10 +40,11 @@ fn table(full: &Full) {
 }
 
 /// Each operation's name, the proved library's nanoseconds, and Rust's.
-fn times(full: &Full, snapshot: &[u8]) -> [(&'static str, f64, f64); 5] {
+fn times(full: &Full, snapshot: &[u8]) -> [(&'static str, f64, f64); 6] {
     let (bytes, image, name) = (&full.bytes[..], &full.image, full.name.as_str());
     let mut out = vec![0; 1 << 20];
     let mut buffer = full.bytes.clone();
+    let turned = turned(snapshot);
     let mut value = [0; 1];
     [
         (
@@ -55,6 +56,11 @@ fn times(full: &Full, snapshot: &[u8]) -> [(&'static str, f64, f64); 5] {
             "Restore",
             best(|| differential::restore(black_box(&mut buffer), snapshot).expect("a snapshot")),
             best(|| MetadataImage::from_records(Uuid::nil(), &decoded(black_box(snapshot)))),
+        ),
+        (
+            "Restore, last record first",
+            best(|| differential::restore(black_box(&mut buffer), &turned).expect("records")),
+            best(|| MetadataImage::from_records(Uuid::nil(), &decoded(black_box(&turned)))),
         ),
         (
             "freeze",
@@ -98,6 +104,13 @@ fn encoded(records: &[MetadataRecord]) -> Vec<u8> {
     encoded
         .flat_map(|record| record.expect("a kind that 01 has"))
         .collect()
+}
+
+/// The records from the last to the first: no snapshot has this order, so that
+/// they are restored one by one.
+fn turned(snapshot: &[u8]) -> Vec<u8> {
+    let records: Vec<MetadataRecord> = decoded(snapshot).into_iter().rev().collect();
+    encoded(&records)
 }
 
 fn decoded(mut bytes: &[u8]) -> Vec<MetadataRecord> {

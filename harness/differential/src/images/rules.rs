@@ -92,10 +92,15 @@ fn compare_throttles(tally: &mut Tally, subject: &Subject, image: &[u8]) -> Comp
             let call = |value: &mut [u64]| throttle(image, node, number, value);
             compare_value(tally, what, Ok(rate), call)?;
         }
-        for kind in [3, 4, 128, 255] {
-            let call = |value: &mut [u64]| throttle(image, node, kind, value);
-            compare_value(tally, "throttle of no kind", Err(NO_KIND), call)?;
-        }
+    }
+    Ok(())
+}
+
+/// Every kind byte but the three.
+pub fn compare_no_kinds(tally: &mut Tally, image: &[u8]) -> Compared {
+    for kind in 3..=255 {
+        let call = |value: &mut [u64]| throttle(image, 1, kind, value);
+        compare_value(tally, "throttle of no kind", Err(NO_KIND), call)?;
     }
     Ok(())
 }
