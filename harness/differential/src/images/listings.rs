@@ -2,6 +2,7 @@
 //! is not.
 
 use krabka_metadata::{MetadataRecord, PartitionRecord};
+use oracle::downgrade::downgrade;
 use oracle::facts::build::{id, partition};
 use oracle::image::{MOST_CAPACITY, image};
 
@@ -19,6 +20,8 @@ pub fn compare_listing(tally: &mut Tally) -> Compared {
     let fit = all.take_while(|subject| subject.weight <= MOST_CAPACITY);
     let subject = fit.last().expect("one partition fits");
     let image = image(&subject.observed, MOST_CAPACITY).expect("contents that fit");
+    let listed = rules::bytes(&downgrade(&subject.image, i16::MIN)).len();
+    assert!(listed > 10 * subject.layout.used(), "a long listing");
     rules::compare_no_kinds(tally, &image)?;
     rules::compare(tally, &subject, &image)
 }

@@ -140,7 +140,7 @@ pub fn compare_no_image(tally: &mut Tally, buffer: &[u8]) -> Compared {
     compare_refused(tally, what, || "a snapshot".to_owned(), NO_IMAGE, call)
 }
 
-fn bytes(records: &[MetadataRecord]) -> Vec<u8> {
+pub fn bytes(records: &[MetadataRecord]) -> Vec<u8> {
     let encoded = records.iter().map(encode);
     encoded
         .flat_map(|record| record.expect("a kind that 01 has"))
