@@ -27,11 +27,11 @@ pub one-zero : {a b : Bool} (x : Bool) → a ≡ b → a ≡ x → _≡_ {A = �
 one-zero x e h = ap {B = ℕ} (λ t. cond t 1 0) (sym h ∙ e)
 
 -- a value into the first place of a list, and where there is no place
-set-first : (n : ℕ) (l : List ℕ) → 0 < length l → set l 0 n ≡ firstIs (n ∷ []) l
+pub set-first : (n : ℕ) (l : List ℕ) → 0 < length l → set l 0 n ≡ firstIs (n ∷ []) l
 set-first n [] q = absurd (omega arith)
 set-first n (x ∷ l) q = refl
 
-no-first : (n : ℕ) (l : List ℕ) → length l ≤ 0 → l ≡ firstIs (n ∷ []) l
+pub no-first : (n : ℕ) (l : List ℕ) → length l ≤ 0 → l ≡ firstIs (n ∷ []) l
 no-first n [] q = refl
 no-first n (x ∷ l) q = absurd (omega arith)
 
@@ -47,11 +47,8 @@ module _ {v : Value} {r : Reply} (e : valued v ≡ r) where
   is-value : {n : ℕ} → v ≡ Is n → valued (Is n) ≡ r
   is-value h = ap valued (sym h) ∙ e
 
-  pub wide-value : {n : ℕ} → v ≡ Is n → (l : List ℕ) → 0 < length l → (0 ≡ r .number * 4294967296) × (set l 0 n ≡ widened r l)
-  wide-value {n} h l q = rw (← is-value h) (refl, set-first n l q)
-
-  pub wide-nowhere : {n : ℕ} → v ≡ Is n → (l : List ℕ) → length l ≤ 0 → (0 ≡ r .number * 4294967296) × (l ≡ widened r l)
-  wide-nowhere {n} h l q = rw (← is-value h) (refl, no-first n l q)
+  pub wide-value : {n : ℕ} {m : List ℕ} → v ≡ Is n → (l : List ℕ) → m ≡ firstIs (n ∷ []) l → (0 ≡ r .number * 4294967296) × (m ≡ widened r l)
+  wide-value h l q = rw (← is-value h) (refl, q)
 
   pub wide-refused : {n w : ℕ} → v ≡ Refused n → w ≡ n → (l : List ℕ) → (w * 4294967296 ≡ r .number * 4294967296) × (l ≡ widened r l)
   wide-refused {n} {w} h q l = rw (← (ap valued (sym h) ∙ e)) (ap (λ x. x * 4294967296) q, refl)
@@ -61,11 +58,8 @@ module _ {v : Rated} {r : Reply} (e : rating v ≡ r) where
   rated-as : (w : Rated) → v ≡ w → rating w ≡ r
   rated-as w h = ap rating (sym h) ∙ e
 
-  pub rate-value : {n : ℕ} → v ≡ Rate n → (l : List ℕ) → 0 < length l → (1 ≡ counted r) × (set l 0 n ≡ widened r l)
-  rate-value {n} h l q = rw (← rated-as (Rate n) h) (refl, set-first n l q)
-
-  pub rate-nowhere : {n : ℕ} → v ≡ Rate n → (l : List ℕ) → length l ≤ 0 → (1 ≡ counted r) × (l ≡ widened r l)
-  rate-nowhere {n} h l q = rw (← rated-as (Rate n) h) (refl, no-first n l q)
+  pub rate-value : {n : ℕ} {m : List ℕ} → v ≡ Rate n → (l : List ℕ) → m ≡ firstIs (n ∷ []) l → (1 ≡ counted r) × (m ≡ widened r l)
+  rate-value {n} h l q = rw (← rated-as (Rate n) h) (refl, q)
 
   pub rate-none : v ≡ None → (l : List ℕ) → (0 ≡ counted r) × (l ≡ widened r l)
   rate-none h l = rw (← rated-as None h) (refl, refl)
@@ -86,8 +80,5 @@ module _ {v : Restored} {r : Reply} (e : restored v ≡ r) where
   pub restore-refused : {n w : ℕ} → v ≡ end.Refused n → w ≡ n → (l : List ℕ) → (w * 4294967296 ≡ r .number * 4294967296) × (l ≡ widened r l)
   restore-refused {n} {w} h q l = rw (← ended-as (end.Refused n) h) (ap (λ x. x * 4294967296) q, refl)
 
-  pub restore-stopped : {n at w : ℕ} → v ≡ end.Stopped n at → w ≡ n → (l : List ℕ) → 0 < length l → (w * 4294967296 ≡ r .number * 4294967296) × (set l 0 at ≡ widened r l)
-  restore-stopped {n} {at} {w} h q l p = rw (← ended-as (end.Stopped n at) h) (ap (λ x. x * 4294967296) q, set-first at l p)
-
-  pub restore-nowhere : {n at w : ℕ} → v ≡ end.Stopped n at → w ≡ n → (l : List ℕ) → length l ≤ 0 → (w * 4294967296 ≡ r .number * 4294967296) × (l ≡ widened r l)
-  restore-nowhere {n} {at} {w} h q l p = rw (← ended-as (end.Stopped n at) h) (ap (λ x. x * 4294967296) q, no-first at l p)
+  pub restore-stopped : {n at w : ℕ} {m : List ℕ} → v ≡ end.Stopped n at → w ≡ n → (l : List ℕ) → m ≡ firstIs (at ∷ []) l → (w * 4294967296 ≡ r .number * 4294967296) × (m ≡ widened r l)
+  restore-stopped {n} {at} h q l p = rw (← ended-as (end.Stopped n at) h) (ap (λ x. x * 4294967296) q, p)

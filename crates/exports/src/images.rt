@@ -1,5 +1,6 @@
 // Open, the exact test, Validate, Apply and the lookups for programs in other languages.
 use crate::pack;
+use crate::put_first;
 use lookup::Rated;
 use lookup::Value;
 use model::NodeId;
@@ -106,9 +107,7 @@ pub extern "C" fn jeghatuf_features_epoch(image: &[u8], value: &mut [u64]) -> u6
 {
     match lookup::features_epoch(image) {
         Value::Is(n) => {
-            if value.len() > 0 {
-                value[0] = n;
-            }
+            put_first(value, n);
             0
         }
         Value::Refused(number) => wide(number) * 0x1_0000_0000,
@@ -132,9 +131,7 @@ pub extern "C" fn jeghatuf_throttle(image: &[u8], node: u64, kind: u8, value: &m
 {
     match lookup::throttle(image, NodeId(node), kind) {
         Rated::Rate(rate) => {
-            if value.len() > 0 {
-                value[0] = rate;
-            }
+            put_first(value, rate);
             1
         }
         Rated::None => 0,

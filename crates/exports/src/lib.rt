@@ -5,11 +5,13 @@ mod restarts;
 use model::Kind;
 use records::Answer;
 use shape_faults::UNKNOWN_KIND;
+ghost use mathlib.Core.List.{[], _∷_};
 ghost use mathlib.Core.Path.{_≡_};
 ghost use Rattle.model.specs.Kind.{kindOf};
 ghost use Rattle.model.specs.Record.{readOf};
 ghost use Rattle.records.specs.Answers.{replied};
 ghost use Rattle.exports.specs.Exports.{packed, named, writeOfNumber};
+ghost use Rattle.exports.specs.Images.{firstIs};
 
 // The kind of a number.
 pub enum Numbered {
@@ -56,6 +58,15 @@ fn pack(answer: Answer) -> u64
     match answer {
         Answer::Used(n) => n as u64,
         Answer::Refused(number) => number as u64 * 0x1_0000_0000,
+    }
+}
+
+// Puts a number into the first place of a list, where it has one.
+pub(crate) fn put_first(list: &mut [u64], n: u64)
+    ensures { λ _. ⌜ now (list .exit) ≡ firstIs (n ∷ []) (now (list .entry)) ⌝ }
+{
+    if list.len() > 0 {
+        list[0] = n;
     }
 }
 

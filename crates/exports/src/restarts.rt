@@ -1,5 +1,6 @@
 // Snapshot, Restore and the records of a downgrade for programs in other languages.
 use crate::pack;
+use crate::put_first;
 use apply::Restored;
 use wire::wide;
 ghost use mathlib.Core.Path.{_≡_};
@@ -29,11 +30,8 @@ pub extern "C" fn jeghatuf_restore(image: &mut [u8], input: &[u8], place: &mut [
         Restored::Done => 0,
         Restored::Refused(number) => wide(number) * 0x1_0000_0000,
         Restored::Stopped(number, at) => {
-            let answer = wide(number) * 0x1_0000_0000;
-            if place.len() > 0 {
-                place[0] = at as u64;
-            }
-            answer
+            put_first(place, at as u64);
+            wide(number) * 0x1_0000_0000
         }
     }
 }

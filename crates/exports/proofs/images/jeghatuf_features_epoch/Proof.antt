@@ -1,6 +1,6 @@
 -- `exports::images::jeghatuf_features_epoch` meets its contract.
 use borrow.Author.Needs.{needs}
-use Rattle.exports.proofs.Packs.{wide-value, wide-nowhere, wide-refused}
+use Rattle.exports.proofs.Packs.{wide-value, wide-refused}
 use Rattle.exports.proofs.images.jeghatuf_features_epoch.Statement.{statement}
 use Rattle.exports.proofs.images.jeghatuf_features_epoch.Tie as tie
 
@@ -10,8 +10,8 @@ features-epoch-requires c κs = search needs
 enum-known-n : tie.Need-enum-known-n
 enum-known-n c = search needs
 
-slice-write-value : tie.Need-slice-write-value
-slice-write-value c = search needs
+put-first-requires : tie.Need-put-first-requires
+put-first-requires c κs = search needs
 
 enum-known-number : tie.Need-enum-known-number
 enum-known-number c = search needs
@@ -26,13 +26,10 @@ same-length : tie.Need-same-length
 same-length c = search needs
 
 returns : tie.Need-returns
-returns c = wide-value (c .before .before .before .before .features-epoch .ensures) (c .before .before .n .given .1) _ (c .if1 .taken)
+returns c = wide-value (c .before .before .before .before .before .before .before .features-epoch .ensures) (c .before .before .before .before .before .n .given .1) _ (c .before .before .put-first .ensures)
 
 returns-2 : tie.Need-returns-2
-returns-2 c = wide-nowhere (c .before .before .before .before .features-epoch .ensures) (c .before .before .n .given .1) _ (c .if1 .left)
-
-returns-3 : tie.Need-returns-3
-returns-3 c = wide-refused (c .before .before .before .before .features-epoch .ensures) (c .before .before .number .given .1) (c .wide .ensures) _
+returns-2 c = wide-refused (c .before .before .before .before .features-epoch .ensures) (c .before .before .number .given .1) (c .wide .ensures) _
 
 pub jeghatuf-features-epoch-spec : {M : Type 1} → statement M
 jeghatuf-features-epoch-spec =
@@ -40,11 +37,10 @@ jeghatuf-features-epoch-spec =
     (tie.spec
     features-epoch-requires
     enum-known-n
-    slice-write-value
+    put-first-requires
     enum-known-number
     wide-requires
     mul-result
     same-length
     returns
-    returns-2
-    returns-3)
+    returns-2)

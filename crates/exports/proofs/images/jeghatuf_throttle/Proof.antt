@@ -1,6 +1,6 @@
 -- `exports::images::jeghatuf_throttle` meets its contract.
 use borrow.Author.Needs.{needs}
-use Rattle.exports.proofs.Packs.{rate-value, rate-nowhere, rate-none, rate-refused}
+use Rattle.exports.proofs.Packs.{rate-value, rate-none, rate-refused}
 use Rattle.exports.proofs.images.jeghatuf_throttle.Statement.{statement}
 use Rattle.exports.proofs.images.jeghatuf_throttle.Tie as tie
 
@@ -10,8 +10,8 @@ throttle-requires c κs = search needs
 enum-known-rate : tie.Need-enum-known-rate
 enum-known-rate c = search needs
 
-slice-write-value : tie.Need-slice-write-value
-slice-write-value c = search needs
+put-first-requires : tie.Need-put-first-requires
+put-first-requires c κs = search needs
 
 enum-told : tie.Need-enum-told
 enum-told c = search needs
@@ -29,16 +29,13 @@ same-length : tie.Need-same-length
 same-length c = search needs
 
 returns : tie.Need-returns
-returns c = rate-value (c .before .before .before .before .throttle .ensures) (c .before .before .rate .given .1) _ (c .if1 .taken)
+returns c = rate-value (c .before .before .before .before .before .before .before .throttle .ensures) (c .before .before .before .before .before .rate .given .1) _ (c .before .before .put-first .ensures)
 
 returns-2 : tie.Need-returns-2
-returns-2 c = rate-nowhere (c .before .before .before .before .throttle .ensures) (c .before .before .rate .given .1) _ (c .if1 .left)
+returns-2 c = rate-none (c .before .before .throttle .ensures) (c .enum-told .given .1) _
 
 returns-3 : tie.Need-returns-3
-returns-3 c = rate-none (c .before .before .throttle .ensures) (c .enum-told .given .1) _
-
-returns-4 : tie.Need-returns-4
-returns-4 c = rate-refused (c .before .before .before .before .throttle .ensures) (c .before .before .number .given .1) (c .wide .ensures) _
+returns-3 c = rate-refused (c .before .before .before .before .throttle .ensures) (c .before .before .number .given .1) (c .wide .ensures) _
 
 pub jeghatuf-throttle-spec : {M : Type 1} → statement M
 jeghatuf-throttle-spec =
@@ -46,7 +43,7 @@ jeghatuf-throttle-spec =
     (tie.spec
     throttle-requires
     enum-known-rate
-    slice-write-value
+    put-first-requires
     enum-told
     enum-known-number
     wide-requires
@@ -54,5 +51,4 @@ jeghatuf-throttle-spec =
     same-length
     returns
     returns-2
-    returns-3
-    returns-4)
+    returns-3)

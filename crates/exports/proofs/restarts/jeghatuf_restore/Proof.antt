@@ -1,6 +1,6 @@
 -- `exports::restarts::jeghatuf_restore` meets its contract: a number for each end, and a place where a record is refused.
 use borrow.Author.Needs.{needs}
-use Rattle.exports.proofs.Packs.{restore-done, restore-refused, restore-stopped, restore-nowhere}
+use Rattle.exports.proofs.Packs.{restore-done, restore-refused, restore-stopped}
 use Rattle.exports.proofs.restarts.jeghatuf_restore.Statement.{statement}
 use Rattle.exports.proofs.restarts.jeghatuf_restore.Tie as tie
 
@@ -22,14 +22,14 @@ mul-result c = search needs
 enum-known-number-2 : tie.Need-enum-known-number-2
 enum-known-number-2 c = search needs
 
+put-first-requires : tie.Need-put-first-requires
+put-first-requires c κs = search needs
+
 wide-requires-2 : tie.Need-wide-requires-2
 wide-requires-2 c κs = search needs
 
-mul-answer : tie.Need-mul-answer
-mul-answer c = search needs
-
-slice-write-place : tie.Need-slice-write-place
-slice-write-place c = search needs
+mul-result-2 : tie.Need-mul-result-2
+mul-result-2 c = search needs
 
 same-length : tie.Need-same-length
 same-length c = search needs
@@ -57,17 +57,8 @@ same-length-4 c = search needs
 
 returns-3 : tie.Need-returns-3
 returns-3 c =
-    let e = c .before .before .before .before .before .before .before .restore .ensures in
-    let p = restore-stopped (e .0) (c .before .before .before .number2 .given .1) (c .before .wide2 .ensures) _ (c .if1 .taken) in
-    (p .0, (e .1, p .1))
-
-same-length-5 : tie.Need-same-length-5
-same-length-5 c = search needs
-
-returns-4 : tie.Need-returns-4
-returns-4 c =
-    let e = c .before .before .before .before .before .before .before .restore .ensures in
-    let p = restore-nowhere (e .0) (c .before .before .before .number2 .given .1) (c .before .wide2 .ensures) _ (c .if1 .left) in
+    let e = c .before .before .before .before .before .before .before .before .before .before .restore .ensures in
+    let p = restore-stopped (e .0) (c .before .before .before .before .before .before .number2 .given .1) (c .wide2 .ensures) _ (c .before .before .before .put-first .ensures) in
     (p .0, (e .1, p .1))
 
 pub jeghatuf-restore-spec : {M : Type 1} → statement M
@@ -80,15 +71,13 @@ jeghatuf-restore-spec =
     wide-requires
     mul-result
     enum-known-number-2
+    put-first-requires
     wide-requires-2
-    mul-answer
-    slice-write-place
+    mul-result-2
     same-length
     returns
     same-length-2
     returns-2
     same-length-3
     same-length-4
-    returns-3
-    same-length-5
-    returns-4)
+    returns-3)
