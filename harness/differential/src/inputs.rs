@@ -82,7 +82,8 @@ pub struct Lists {
 }
 
 impl Lists {
-    fn of(record: &[u8]) -> Self {
+    /// The fields of a record, and no output.
+    pub fn of(record: &[u8]) -> Self {
         let (kind, body) = Run::new(record)
             .next()
             .and_then(Result::ok)

@@ -1,6 +1,8 @@
 //! The proved library's entry points as safe functions, and the inputs on which
 //! the programs of this crate compare and time them.
 
+#[cfg(feature = "images")]
+pub mod benchmarks;
 mod entry;
 #[cfg(feature = "images")]
 pub mod histories;

@@ -3,9 +3,10 @@
 use std::hint::black_box;
 use std::time::{Duration, Instant};
 
-const ROUNDS: u32 = 9;
-/// A round makes calls for at least so long.
-const ROUND: Duration = Duration::from_millis(20);
+pub const ROUNDS: u32 = 10;
+/// A round makes calls for at least so long: short enough to fall between what
+/// else the machine does.
+const ROUND: Duration = Duration::from_millis(5);
 
 /// Nanoseconds a call.
 pub fn best<T>(mut call: impl FnMut() -> T) -> f64 {

@@ -1,0 +1,159 @@
+-- `inspect::run::run_in` ends, and stays in its buffers.
+use Prim.Native.Nat.{_-_, _≤_}
+use mathlib.Core.Path.{_≡_, sym}
+use native.Mathlib.Omega.{arith}
+use lib.ListN.{length}
+use lib.Seq.{length-take-le}
+use borrow.Author.Needs.{needs}
+use Rattle.inspect.proofs.run.run_in.Statement.{statement}
+use Rattle.inspect.proofs.run.run_in.Tie as tie
+use Rattle.inspect.proofs.run.run_in.Reads as reads
+use Rattle.inspect.proofs.run.run_in.Lts as lts
+use Rattle.inspect.proofs.run.say_torn.Reads as say-torn-reads
+use Rattle.inspect.proofs.run.size_of.Reads as size-of-reads
+use Rattle.inspect.proofs.run.turn.Reads as turn-reads
+use Rattle.inspect.proofs.source.passed.Reads as passed-reads
+use Rattle.inspect.proofs.source.refill.Reads as refill-reads
+use Rattle.inspect.proofs.source.start.Reads as start-reads
+use Rattle.inspect.proofs.source.tell_progress.Reads as tell-progress-reads
+
+abbrev Inv-loop : tie.InvT-loop
+Inv-loop fd window₀ plain₀ other₀ out₀ more₀ cuts source₀ course₀ window plain other out more source course = (length window ≡ length window₀) × (length plain ≡ length plain₀) × (length other ≡ length other₀) × (length out ≡ length out₀) × (length more ≡ length more₀) × (source .at ≤ source .end) × (source .end ≤ length window)
+
+abbrev μ-loop : tie.MeasureT-loop
+μ-loop fd window₀ plain₀ other₀ out₀ more₀ cuts source₀ course₀ window plain other out more source course = 9223372036854775807 - (course .records)
+
+start-requires : tie.Need-start-requires Inv-loop μ-loop
+start-requires c κs = search needs
+
+loop-holds : tie.Need-loop-holds Inv-loop μ-loop
+loop-holds c = search needs
+
+refill-requires : tie.Need-refill-requires Inv-loop μ-loop
+refill-requires c κs = search needs
+
+sub-size-of : tie.Need-sub-size-of Inv-loop μ-loop
+sub-size-of c = search needs
+
+part-size-of-start : tie.Need-part-size-of-start Inv-loop μ-loop
+part-size-of-start c = search needs
+
+part-size-of-end : tie.Need-part-size-of-end Inv-loop μ-loop
+part-size-of-end c = search needs
+
+size-of-requires : tie.Need-size-of-requires Inv-loop μ-loop
+size-of-requires c κs = search needs
+
+sub-say-torn : tie.Need-sub-say-torn Inv-loop μ-loop
+sub-say-torn c = search needs
+
+say-torn-requires : tie.Need-say-torn-requires Inv-loop μ-loop
+say-torn-requires c κs = search needs
+
+same-length : tie.Need-same-length Inv-loop μ-loop
+same-length c = search needs
+
+same-length-2 : tie.Need-same-length-2 Inv-loop μ-loop
+same-length-2 c = search needs
+
+same-length-3 : tie.Need-same-length-3 Inv-loop μ-loop
+same-length-3 c = search needs
+
+same-length-4 : tie.Need-same-length-4 Inv-loop μ-loop
+same-length-4 c = search needs
+
+same-length-5 : tie.Need-same-length-5 Inv-loop μ-loop
+same-length-5 c = search needs
+
+returns : tie.Need-returns Inv-loop μ-loop
+returns c = search needs
+
+add-next : tie.Need-add-next Inv-loop μ-loop
+add-next c = search needs
+
+sub-turn : tie.Need-sub-turn Inv-loop μ-loop
+sub-turn c = search needs
+
+part-turn-start : tie.Need-part-turn-start Inv-loop μ-loop
+part-turn-start c = search needs
+
+part-turn-end : tie.Need-part-turn-end Inv-loop μ-loop
+part-turn-end c = search needs
+
+turn-requires : tie.Need-turn-requires Inv-loop μ-loop
+turn-requires c κs = search needs
+
+passed-requires : tie.Need-passed-requires Inv-loop μ-loop
+passed-requires c κs = (search needs, omega (arith, c .before .before .before .before .before .before .before .before .before .before .before .before .before .before .before .before .before .before .before .before .before .refill .ensures .1, c .before .before .before .before .before .before .before .before .before .before .before .before .before .before .before .before .before .before .before .before .before .before .before .before .before .loop .inv .0, c .before .before .before .before .before .before .before .before .before .before .before .before .before .before .before .before .before .before .before .before .before .before .before .before .before .before .before .before .before .before .before .before .pre))
+
+tell-progress-requires : tie.Need-tell-progress-requires Inv-loop μ-loop
+tell-progress-requires c κs = search needs
+
+loop-less : tie.Need-loop-less Inv-loop μ-loop
+loop-less c = search needs
+
+loop-again : tie.Need-loop-again Inv-loop μ-loop
+loop-again c = (
+  omega (arith, c .before .before .before .before .before .before .before .before .before .before .before .before .before .before .before .before .before .before .before .before .before .before .before .refill .kept, c .before .before .before .before .before .before .before .before .before .before .before .before .before .before .before .before .before .before .before .before .before .before .before .before .before .before .before .loop .inv .0),
+  omega (arith, c .before .before .before .before .before .before .before .before .before .before .turn .kept .0, c .before .before .before .before .before .before .before .before .before .before .before .before .before .before .before .before .before .before .before .before .before .before .before .before .before .before .before .loop .inv .1),
+  omega (arith, c .before .before .before .before .before .before .before .before .before .before .turn .kept .1 .0, c .before .before .before .before .before .before .before .before .before .before .before .before .before .before .before .before .before .before .before .before .before .before .before .before .before .before .before .loop .inv .2),
+  omega (arith, c .before .before .before .before .before .before .before .before .before .before .turn .kept .1 .1 .0, c .before .before .before .before .before .before .before .before .before .before .before .before .before .before .before .before .before .before .before .before .before .before .before .before .before .before .before .loop .inv .3),
+  omega (arith, c .before .before .before .before .before .before .before .before .before .before .turn .kept .1 .1 .1 .0, c .before .before .before .before .before .before .before .before .before .before .before .before .before .before .before .before .before .before .before .before .before .before .before .before .before .before .before .loop .inv .4),
+  c .before .passed .ensures .0,
+  omega (arith, c .before .passed .ensures .1, c .before .before .before .before .before .before .before .before .before .before .before .before .before .before .before .before .before .before .before .before .before .before .before .refill .ensures .1, c .before .before .before .before .before .before .before .before .before .before .before .before .before .before .before .before .before .before .before .before .before .before .before .refill .kept),
+)
+
+same-length-6 : tie.Need-same-length-6 Inv-loop μ-loop
+same-length-6 c = search needs
+
+same-length-7 : tie.Need-same-length-7 Inv-loop μ-loop
+same-length-7 c = search needs
+
+same-length-8 : tie.Need-same-length-8 Inv-loop μ-loop
+same-length-8 c = search needs
+
+same-length-9 : tie.Need-same-length-9 Inv-loop μ-loop
+same-length-9 c = search needs
+
+same-length-10 : tie.Need-same-length-10 Inv-loop μ-loop
+same-length-10 c = search needs
+
+returns-2 : tie.Need-returns-2 Inv-loop μ-loop
+returns-2 c = search needs
+
+pub run-in-spec : {M : Type 1} → statement M
+run-in-spec =
+    tie.close
+    (tie.spec
+    Inv-loop
+    μ-loop
+    start-requires
+    loop-holds
+    refill-requires
+    sub-size-of
+    part-size-of-start
+    part-size-of-end
+    size-of-requires
+    sub-say-torn
+    say-torn-requires
+    same-length
+    same-length-2
+    same-length-3
+    same-length-4
+    same-length-5
+    returns
+    add-next
+    sub-turn
+    part-turn-start
+    part-turn-end
+    turn-requires
+    passed-requires
+    tell-progress-requires
+    loop-less
+    loop-again
+    same-length-6
+    same-length-7
+    same-length-8
+    same-length-9
+    same-length-10
+    returns-2)

@@ -1,0 +1,52 @@
+-- `report::exists::say_all` ends, and stays in its buffers.
+use Prim.Native.Nat.{_-_, _≤_}
+use mathlib.Core.Path.{_≡_, sym}
+use native.Mathlib.Omega.{arith}
+use lib.ListN.{length}
+use lib.Seq.{length-take-le}
+use borrow.Author.Needs.{needs}
+use Rattle.report.proofs.exists.say_all.Statement.{statement}
+use Rattle.report.proofs.exists.say_all.Tie as tie
+use Rattle.report.proofs.exists.say_all.Reads as reads
+use Rattle.report.proofs.exists.say_all.Lts as lts
+use Rattle.report.proofs.exists.say_counts.Reads as say-counts-reads
+use Rattle.report.proofs.exists.say_entries.Reads as say-entries-reads
+use Rattle.report.proofs.exists.say_weight.Reads as say-weight-reads
+use Rattle.report.proofs.snapshots.take_snapshot.Reads as take-snapshot-reads
+
+take-snapshot-requires : tie.Need-take-snapshot-requires
+take-snapshot-requires c κs = search needs
+
+slice-reshare-prefix-say-entries : tie.Need-slice-reshare-prefix-say-entries
+slice-reshare-prefix-say-entries c = search needs
+
+slice-aggregate-say-entries : tie.Need-slice-aggregate-say-entries
+slice-aggregate-say-entries c = sym (length-take-le _ _ (c .before .before .before .take-snapshot .ensures))
+
+say-entries-requires : tie.Need-say-entries-requires
+say-entries-requires c κs = search needs
+
+say-counts-requires : tie.Need-say-counts-requires
+say-counts-requires c κs = search needs
+
+say-weight-requires : tie.Need-say-weight-requires
+say-weight-requires c κs = search needs
+
+same-length : tie.Need-same-length
+same-length c = search needs
+
+returns : tie.Need-returns
+returns c = search needs
+
+pub say-all-spec : {M : Type 1} → statement M
+say-all-spec =
+    tie.close
+    (tie.spec
+    take-snapshot-requires
+    slice-reshare-prefix-say-entries
+    slice-aggregate-say-entries
+    say-entries-requires
+    say-counts-requires
+    say-weight-requires
+    same-length
+    returns)

@@ -1,0 +1,58 @@
+-- `report::snapshots::same_snapshots` ends, and stays in its buffers.
+use Prim.Native.Nat.{_-_, _≤_}
+use mathlib.Core.Path.{_≡_, sym}
+use native.Mathlib.Omega.{arith}
+use lib.ListN.{length}
+use lib.Seq.{length-take-le}
+use borrow.Author.Needs.{needs}
+use Rattle.report.proofs.snapshots.same_snapshots.Statement.{statement}
+use Rattle.report.proofs.snapshots.same_snapshots.Tie as tie
+use Rattle.report.proofs.snapshots.same_snapshots.Reads as reads
+use Rattle.report.proofs.snapshots.same_snapshots.Lts as lts
+use Rattle.report.proofs.snapshots.same_records.Reads as same-records-reads
+use Rattle.report.proofs.snapshots.take_snapshot.Reads as take-snapshot-reads
+
+take-snapshot-requires : tie.Need-take-snapshot-requires
+take-snapshot-requires c κs = search needs
+
+take-snapshot-requires-2 : tie.Need-take-snapshot-requires-2
+take-snapshot-requires-2 c κs = search needs
+
+slice-reshare-prefix-same-records : tie.Need-slice-reshare-prefix-same-records
+slice-reshare-prefix-same-records c = search needs
+
+slice-aggregate-same-records : tie.Need-slice-aggregate-same-records
+slice-aggregate-same-records c = sym (length-take-le _ _ (c .before .before .before .before .before .before .before .take-snapshot .ensures))
+
+slice-reshare-prefix-same-records-2 : tie.Need-slice-reshare-prefix-same-records-2
+slice-reshare-prefix-same-records-2 c = search needs
+
+slice-aggregate-same-records-2 : tie.Need-slice-aggregate-same-records-2
+slice-aggregate-same-records-2 c = sym (length-take-le _ _ (c .before .before .before .before .take-snapshot2 .ensures))
+
+same-records-requires : tie.Need-same-records-requires
+same-records-requires c κs = search needs
+
+same-length : tie.Need-same-length
+same-length c = search needs
+
+same-length-2 : tie.Need-same-length-2
+same-length-2 c = search needs
+
+returns : tie.Need-returns
+returns c = search needs
+
+pub same-snapshots-spec : {M : Type 1} → statement M
+same-snapshots-spec =
+    tie.close
+    (tie.spec
+    take-snapshot-requires
+    take-snapshot-requires-2
+    slice-reshare-prefix-same-records
+    slice-aggregate-same-records
+    slice-reshare-prefix-same-records-2
+    slice-aggregate-same-records-2
+    same-records-requires
+    same-length
+    same-length-2
+    returns)

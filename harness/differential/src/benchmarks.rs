@@ -1,0 +1,71 @@
+//! Times every operation of the proved library beside the Rust, on full images
+//! of four sizes, and tells it in tables and in a plot.
+
+mod changes;
+mod lookups;
+mod numbers;
+mod page;
+mod plot;
+mod records;
+mod restarts;
+mod rows;
+mod tables;
+mod times;
+
+pub use page::Page;
+
+use crate::images::Full;
+use records::Record;
+use rows::Row;
+
+/// The capacities of the images, in bytes.
+const SIZES: [usize; 4] = [1_024, 4_096, 16_384, 65_536];
+
+/// All is measured so often, one after the other: what else the machine does
+/// comes and goes, and the best time counts.
+const PASSES: usize = 7;
+
+/// What was measured.
+pub struct Figures {
+    /// How many records the image of each size holds.
+    counts: [usize; SIZES.len()],
+    rows: Vec<Row>,
+    records: Vec<Record>,
+}
+
+impl Figures {
+    /// Takes about two minutes, and says on the way where it is.
+    pub fn measure() -> Self {
+        let images = SIZES.map(Full::of);
+        let passes = (1..=PASSES).map(|pass| {
+            eprintln!("pass {pass} of {PASSES}");
+            Self {
+                counts: images.each_ref().map(|full| full.image.to_records().len()),
+                rows: rows::measure(&images),
+                records: records::measure(),
+            }
+        });
+        passes.reduce(Self::best).expect("a pass")
+    }
+
+    /// The better of both figures, each by itself.
+    fn best(self, other: Self) -> Self {
+        let rows = self.rows.into_iter().zip(other.rows);
+        let records = self.records.into_iter().zip(other.records);
+        Self {
+            counts: self.counts,
+            rows: rows.map(|(one, other)| one.best(&other)).collect(),
+            records: records.map(|(one, other)| one.best(&other)).collect(),
+        }
+    }
+
+    /// The tables, in Markdown.
+    pub fn tables(&self) -> String {
+        tables::tables(self)
+    }
+
+    /// The plot, in SVG.
+    pub fn plot(&self) -> String {
+        plot::plot(&self.rows)
+    }
+}

@@ -1,0 +1,87 @@
+//! Open, the exact test, Validate and Apply. Each record is stored already, so
+//! that applying it again leaves the image as it was.
+
+use std::hint::black_box;
+
+use krabka_metadata::{MetadataImage, MetadataRecord};
+use oracle::facts::build::broker;
+use oracle::verdict::verdict;
+use uuid::Uuid;
+use wire::encode;
+
+use super::rows::Timed;
+use crate::images::Full;
+use crate::{apply, is_image, open, validate};
+
+pub fn measure(full: &Full) -> Vec<Timed> {
+    assert_eq!(is_image(&full.bytes), 1, "{} bytes", full.bytes.len());
+    let [topic, partition, broker] = stored(full);
+    vec![
+        fresh(full),
+        exact(full),
+        validated(full, "Validate, topic (refused, 6)", &topic),
+        validated(full, "Validate, partition", &partition),
+        validated(full, "Validate, broker", &broker),
+        applied(full, "Apply, topic", &topic),
+        applied(full, "Apply, partition", &partition),
+        applied(full, "Apply, broker", &broker),
+    ]
+}
+
+/// A topic, a partition and a broker of the image.
+fn stored(full: &Full) -> [MetadataRecord; 3] {
+    let topic = full.image.topic(&full.name).expect("a stored topic");
+    let partition = full.image.partition(&full.name, 1);
+    let partition = partition.expect("a stored partition");
+    [
+        MetadataRecord::V1Topic(topic.clone()),
+        MetadataRecord::V1Partition(partition.clone()),
+        MetadataRecord::V1BrokerRegistration(broker(2, 1)),
+    ]
+}
+
+fn fresh(full: &Full) -> Timed {
+    let mut buffer = full.bytes.clone();
+    Timed::of(
+        "Open",
+        "`new`",
+        || open(black_box(&mut buffer)).expect("a capacity that Open takes"),
+        || MetadataImage::new(black_box(Uuid::nil())),
+    )
+}
+
+fn exact(full: &Full) -> Timed {
+    Timed::of(
+        "exact test",
+        "the harness's own test",
+        || is_image(black_box(&full.bytes)),
+        || oracle::exact::is_image(black_box(&full.bytes)),
+    )
+}
+
+/// The topic is refused, since it exists.
+fn validated(full: &Full, name: &'static str, record: &MetadataRecord) -> Timed {
+    let input = encode(record).expect("a kind that 01 has");
+    let expected = verdict(&full.image, record);
+    assert_eq!(validate(&full.bytes, &input), expected, "{name}");
+    Timed::of(
+        name,
+        "`validate`",
+        || validate(black_box(&full.bytes), black_box(&input)),
+        || full.image.validate(black_box(record)).is_ok(),
+    )
+}
+
+fn applied(full: &Full, name: &'static str, record: &MetadataRecord) -> Timed {
+    let input = encode(record).expect("a kind that 01 has");
+    let mut bytes = full.bytes.clone();
+    let mut image = full.image.clone();
+    assert_eq!(apply(&mut bytes, &input), 0, "{name}");
+    assert!(bytes == full.bytes, "{name} changes the image");
+    Timed::of(
+        name,
+        "`apply`",
+        || apply(black_box(&mut bytes), black_box(&input)),
+        || image.apply(black_box(record)),
+    )
+}

@@ -1,0 +1,114 @@
+//! Snapshot, Restore and the listing for a downgrade. The Rust's records are
+//! sorted and encoded, or decoded, so that both sides begin and end with bytes.
+
+use std::hint::black_box;
+
+use krabka_metadata::{MetadataImage, MetadataRecord};
+use oracle::image::image;
+use oracle::observe::{Witness, observe};
+use oracle::{downgrade, order};
+use uuid::Uuid;
+use wire::{decode, encode};
+
+use super::rows::Timed;
+use crate::images::Full;
+
+/// A level at which every partition is listed.
+const LEVEL: i16 = 16;
+
+pub fn measure(full: &Full) -> Vec<Timed> {
+    let snapshot = snapshot(&full.image);
+    vec![
+        taken(full, &snapshot),
+        restored(full, "Restore", &snapshot),
+        restored(full, "Restore, last record first", &turned(&snapshot)),
+        listed(full),
+    ]
+}
+
+fn taken(full: &Full, expected: &[u8]) -> Timed {
+    let mut out = vec![0; full.bytes.len()];
+    assert_eq!(crate::snapshot(&full.bytes, &mut out), Ok(expected.len()));
+    assert!(
+        out.starts_with(expected),
+        "another snapshot than the Rust's"
+    );
+    Timed::of(
+        "Snapshot",
+        "`to_records`, sorted and encoded",
+        || crate::snapshot(black_box(&full.bytes), &mut out),
+        || snapshot(black_box(&full.image)).len(),
+    )
+}
+
+fn restored(full: &Full, name: &'static str, input: &[u8]) -> Timed {
+    let mut buffer = vec![0; full.bytes.len()];
+    assert_eq!(crate::restore(&mut buffer, input), Ok(()), "{name}");
+    assert!(
+        Some(&buffer) == laid_out(input, buffer.len()).as_ref(),
+        "{name}"
+    );
+    Timed::of(
+        name,
+        "decoded, and `from_records`",
+        || crate::restore(black_box(&mut buffer), black_box(input)),
+        || rebuilt(black_box(input)),
+    )
+}
+
+fn listed(full: &Full) -> Timed {
+    let expected = listing(&full.image);
+    let mut out = vec![0; expected.len()];
+    let answer = crate::downgrade(&full.bytes, LEVEL, &mut out);
+    assert_eq!(answer, Ok(expected.len()));
+    assert!(out == expected, "another listing than the Rust's");
+    Timed::of(
+        "downgrade to level 16",
+        "`metadata_version_downgrade_records`, sorted and encoded",
+        || crate::downgrade(black_box(&full.bytes), LEVEL, &mut out),
+        || listing(black_box(&full.image)).len(),
+    )
+}
+
+fn snapshot(image: &MetadataImage) -> Vec<u8> {
+    let mut records = image.to_records();
+    order::sort(&mut records);
+    encoded(&records)
+}
+
+fn rebuilt(input: &[u8]) -> MetadataImage {
+    MetadataImage::from_records(Uuid::nil(), &decoded(input))
+}
+
+/// The bytes of the Rust's image of some records.
+fn laid_out(input: &[u8], capacity: usize) -> Option<Vec<u8>> {
+    image(&observe(&rebuilt(input), &Witness::default()), capacity)
+}
+
+fn listing(image: &MetadataImage) -> Vec<u8> {
+    encoded(&downgrade::downgrade(image, LEVEL))
+}
+
+/// The records from the last to the first: no snapshot has this order, so that
+/// they are restored one by one.
+fn turned(snapshot: &[u8]) -> Vec<u8> {
+    let records: Vec<MetadataRecord> = decoded(snapshot).into_iter().rev().collect();
+    encoded(&records)
+}
+
+fn encoded(records: &[MetadataRecord]) -> Vec<u8> {
+    let encoded = records.iter().map(encode);
+    encoded
+        .flat_map(|record| record.expect("a kind that 01 has"))
+        .collect()
+}
+
+fn decoded(mut bytes: &[u8]) -> Vec<MetadataRecord> {
+    let mut records = Vec::new();
+    while !bytes.is_empty() {
+        let (record, used) = decode(bytes).expect("a snapshot's record");
+        records.push(record);
+        bytes = &bytes[used..];
+    }
+    records
+}

@@ -1,0 +1,77 @@
+//! The tables of the figures, in Markdown.
+
+use super::numbers::{ratio, size, time};
+use super::records::Record;
+use super::rows::Row;
+use super::{Figures, PASSES, SIZES};
+use crate::timing::ROUNDS;
+
+pub fn tables(figures: &Figures) -> String {
+    [
+        images(&figures.counts),
+        proved(&figures.rows),
+        "The same calls in Rust, and proved/Rust:\n".to_owned(),
+        beside(&figures.rows),
+        "Read and Write, which take no image, beside the harness's own:\n".to_owned(),
+        records(&figures.records),
+    ]
+    .join("\n")
+}
+
+/// What the next tables show.
+fn images(counts: &[usize; SIZES.len()]) -> String {
+    let [first, second, third, last] = counts;
+    format!(
+        "One call on a full image, the best of {PASSES} passes of {ROUNDS} rounds; the images hold {first}, {second}, {third} and {last} records. \
+         Growth is from 16 KB to 64 KB: 4 is linear.\n"
+    )
+}
+
+fn proved(rows: &[Row]) -> String {
+    let sizes = SIZES.map(size).join(" | ");
+    let head = format!("operation | {sizes} | growth | Rust, 64 KB | proved/Rust, 64 KB");
+    let rows = rows.iter().map(|row| {
+        let [.., last] = row.times;
+        let mut cells = vec![row.name.to_owned()];
+        cells.extend(row.times.map(|times| time(times.proved)));
+        cells.extend([ratio(row.growth()), time(last.rust), ratio(last.ratio())]);
+        cells
+    });
+    table(&head, 1, rows)
+}
+
+fn beside(rows: &[Row]) -> String {
+    let sizes = SIZES.map(size).join(" | ");
+    let ratios = SIZES.map(|bytes| format!("ratio, {}", size(bytes)));
+    let head = format!("operation | in Rust | {sizes} | {}", ratios.join(" | "));
+    let rows = rows.iter().map(|row| {
+        let mut cells = vec![row.name.to_owned(), row.beside.to_owned()];
+        cells.extend(row.times.map(|times| time(times.rust)));
+        cells.extend(row.times.map(|times| ratio(times.ratio())));
+        cells
+    });
+    table(&head, 2, rows)
+}
+
+fn records(records: &[Record]) -> String {
+    let head = "record | bytes | Read | Rust | ratio | Write | Rust | ratio";
+    let rows = records.iter().map(|record| {
+        let mut cells = vec![record.name.to_owned(), record.bytes.to_string()];
+        for times in [record.read, record.write] {
+            cells.extend([time(times.proved), time(times.rust), ratio(times.ratio())]);
+        }
+        cells
+    });
+    table(head, 1, rows)
+}
+
+/// The first columns, so many as `words` says, hold words, the others numbers.
+fn table(head: &str, words: usize, rows: impl Iterator<Item = Vec<String>>) -> String {
+    let columns = head.split(" | ").count();
+    let rule = [vec!["---"; words], vec!["---:"; columns - words]].concat();
+    let lines = [head.to_owned(), rule.join(" | ")].into_iter();
+    lines
+        .chain(rows.map(|cells| cells.join(" | ")))
+        .map(|line| format!("| {line} |\n"))
+        .collect()
+}

@@ -1,0 +1,105 @@
+/* The entry points of the proved library, target/staticlib/libexports.a.
+ *
+ * No call asks anything of the bytes that it is given, and none keeps a
+ * pointer. A list goes as a pointer, which is never null, and how many elements
+ * it has. A list that is written to overlaps no other one. A number that goes
+ * to value[0] or place[0] is lost where that list has no element.
+ *
+ * Where nothing else is said, an answer is packed: a refusal's number, 0 where
+ * there is none, times 2^32, plus a value: the bytes used or written, or a
+ * count. A call that refuses leaves its lists as they were.
+ */
+#ifndef JEGHATUF_H
+#define JEGHATUF_H
+
+#include <stddef.h>
+#include <stdint.h>
+
+#ifdef __cplusplus
+extern "C" {
+#endif
+
+/* The refusal's number of a packed answer, and its value. */
+static inline uint32_t jeghatuf_refusal(uint64_t answer) { return (uint32_t)(answer >> 32); }
+static inline uint32_t jeghatuf_value(uint64_t answer) { return (uint32_t)answer; }
+
+/* Records. */
+
+/* Reads the record at the start of the input. The bytes used. */
+uint64_t jeghatuf_read(const uint8_t *input, size_t input_len);
+
+/* Writes a record of a kind: the tags of its fields, the length of each, and
+ * their values back to back. The bytes written. */
+uint64_t jeghatuf_write(uint8_t kind, const uint8_t *tags, size_t tags_len, const uint16_t *lengths,
+                        size_t lengths_len, const uint8_t *values, size_t values_len, uint8_t *out,
+                        size_t out_len);
+
+/* Images: buffers of 128 to 65,536 bytes. */
+
+/* Makes a buffer a fresh image. The value is 0. */
+uint64_t jeghatuf_open(uint8_t *buffer, size_t buffer_len);
+
+/* Not packed: 1 where the buffer is an image, else 0. */
+uint64_t jeghatuf_is_image(const uint8_t *buffer, size_t buffer_len);
+
+/* Whether the record at the start of the input may be applied. The value is 0. */
+uint64_t jeghatuf_validate(const uint8_t *image, size_t image_len, const uint8_t *input, size_t input_len);
+
+/* Applies the record at the start of the input. The value is 0. */
+uint64_t jeghatuf_apply(uint8_t *image, size_t image_len, const uint8_t *input, size_t input_len);
+
+/* Restarts. */
+
+/* Writes the image's records. The bytes written. */
+uint64_t jeghatuf_snapshot(const uint8_t *image, size_t image_len, uint8_t *out, size_t out_len);
+
+/* Makes a buffer the image of the records of the input. The value is 0. Where a
+ * record is refused, place[0] gets the byte that it begins at, and the buffer
+ * becomes the image of the records before it. */
+uint64_t jeghatuf_restore(uint8_t *image, size_t image_len, const uint8_t *input, size_t input_len,
+                          uint64_t *place, size_t place_len);
+
+/* Writes the records that take an image to a metadata level, an int16_t by its
+ * bits. The bytes written. */
+uint64_t jeghatuf_downgrade(const uint8_t *image, size_t image_len, uint16_t level, uint8_t *out,
+                            size_t out_len);
+
+/* Lookups. Those with an output write the record that is sought: the bytes
+ * written, 0 where there is none. */
+
+/* The topic of a name. */
+uint64_t jeghatuf_topic(const uint8_t *image, size_t image_len, const uint8_t *name, size_t name_len,
+                        uint8_t *out, size_t out_len);
+
+/* The topic of an id, which has 16 bytes. */
+uint64_t jeghatuf_topic_by_id(const uint8_t *image, size_t image_len, const uint8_t *id, uint8_t *out,
+                              size_t out_len);
+
+/* The partition of a topic's name and a number, an int32_t by its bits. */
+uint64_t jeghatuf_partition(const uint8_t *image, size_t image_len, const uint8_t *name, size_t name_len,
+                            uint32_t number, uint8_t *out, size_t out_len);
+
+/* The broker of a node. */
+uint64_t jeghatuf_broker(const uint8_t *image, size_t image_len, uint64_t node, uint8_t *out, size_t out_len);
+
+/* The freeze that covers a topic's name. */
+uint64_t jeghatuf_freeze(const uint8_t *image, size_t image_len, const uint8_t *name, size_t name_len,
+                         uint8_t *out, size_t out_len);
+
+/* Puts a node's throttle into value[0], in bytes a second; the kinds are 0 for
+ * the leader's, 1 for the follower's, 2 between log directories. The value is 1,
+ * or 0 where there is no throttle. */
+uint64_t jeghatuf_throttle(const uint8_t *image, size_t image_len, uint64_t node, uint8_t kind,
+                           uint64_t *value, size_t value_len);
+
+/* Puts the features epoch into value[0], an int64_t by its bits. The value is 0. */
+uint64_t jeghatuf_features_epoch(const uint8_t *image, size_t image_len, uint64_t *value, size_t value_len);
+
+/* How many partitions have fewer replicas in sync than replicas. */
+uint64_t jeghatuf_short_count(const uint8_t *image, size_t image_len);
+
+#ifdef __cplusplus
+}
+#endif
+
+#endif

@@ -1,0 +1,84 @@
+/* Reads a file of records into an image, restarts it, and says which partitions
+ * of a plan exist before and after: partition 0 is the plan's room list,
+ * partition 1 its load sheet. */
+#include "jeghatuf.h"
+
+#include <inttypes.h>
+#include <stdio.h>
+#include <stdlib.h>
+
+#define CAPACITY 4096
+#define MOST_INPUT 65536
+
+static const uint8_t PLAN[] = "plan-0042";
+
+/* The value of an answer. A refusal ends the program. */
+static uint32_t value(const char *call, uint64_t answer) {
+    if (jeghatuf_refusal(answer) != 0) {
+        fprintf(stderr, "%s: refused, %" PRIu32 "\n", call, jeghatuf_refusal(answer));
+        exit(EXIT_FAILURE);
+    }
+    return jeghatuf_value(answer);
+}
+
+/* The bytes of a file, which has to be shorter than the buffer. */
+static size_t load(const char *path, uint8_t *buffer, size_t buffer_len) {
+    FILE *file = fopen(path, "rb");
+    size_t length = file == NULL ? 0 : fread(buffer, 1, buffer_len, file);
+    if (file == NULL || ferror(file)) {
+        perror(path);
+        exit(EXIT_FAILURE);
+    }
+    fclose(file);
+    if (length == buffer_len) {
+        fprintf(stderr, "%s: longer than %d bytes\n", path, MOST_INPUT);
+        exit(EXIT_FAILURE);
+    }
+    return length;
+}
+
+/* Gives each record to Validate and, where that says 0, to Apply. */
+static void take(uint8_t *image, const uint8_t *records, size_t length) {
+    unsigned count = 0, applied = 0;
+    for (size_t at = 0, used; at < length; at += used) {
+        used = value("Read", jeghatuf_read(records + at, length - at));
+        uint64_t answer = jeghatuf_validate(image, CAPACITY, records + at, used);
+        if (jeghatuf_refusal(answer) == 0) {
+            answer = jeghatuf_apply(image, CAPACITY, records + at, used);
+        }
+        if (jeghatuf_refusal(answer) != 0) {
+            printf("byte %zu: refused, %" PRIu32 "\n", at, jeghatuf_refusal(answer));
+        }
+        applied += jeghatuf_refusal(answer) == 0;
+        count++;
+    }
+    printf("%u records, %u applied\n", count, applied);
+}
+
+/* Whether a partition of the plan exists. */
+static const char *exists(const uint8_t *image, uint32_t number) {
+    uint8_t out[CAPACITY];
+    uint64_t answer = jeghatuf_partition(image, CAPACITY, PLAN, sizeof PLAN - 1, number, out, sizeof out);
+    return value("partition", answer) > 0 ? "yes" : "no";
+}
+
+static void say(const uint8_t *image, const char *when) {
+    printf("%s, %s: partition 0 %s, partition 1 %s\n", (const char *)PLAN, when, exists(image, 0), exists(image, 1));
+}
+
+int main(int argc, char **argv) {
+    static uint8_t records[MOST_INPUT + 1], image[CAPACITY], snapshot[CAPACITY], restored[CAPACITY];
+    uint64_t place[1] = {0};
+    if (argc != 2) {
+        fprintf(stderr, "usage: plan FILE\n");
+        return EXIT_FAILURE;
+    }
+    size_t length = load(argv[1], records, sizeof records);
+    value("Open", jeghatuf_open(image, sizeof image));
+    take(image, records, length);
+    say(image, "before the restart");
+    length = value("Snapshot", jeghatuf_snapshot(image, sizeof image, snapshot, sizeof snapshot));
+    value("Restore", jeghatuf_restore(restored, sizeof restored, snapshot, length, place, 1));
+    say(restored, "after the restart");
+    return EXIT_SUCCESS;
+}

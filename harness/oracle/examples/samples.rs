@@ -1,0 +1,99 @@
+//! Writes the samples of the program `inspect`, files of record bytes, into a folder. From the repository's root:
+//!
+//!     cargo run --manifest-path harness/Cargo.toml --example samples -- crates/inspect/data
+
+use std::path::Path;
+use std::{env, fs};
+
+use krabka_metadata::{MetadataRecord, NodeId, PartitionRecord, PatternType};
+use oracle::facts::build::{
+    broker, broker_config, delete_topic, features_epoch, freeze, partition, topic,
+};
+use wire::encode;
+
+const BROKERS: [u64; 3] = [1, 2, 3];
+const THROTTLE: &str = "leader.replication.throttled.rate";
+
+fn main() {
+    let folder = env::args().nth(1).expect("the folder to write to");
+    let write = |name: &str, bytes: &[u8]| {
+        fs::write(Path::new(&folder).join(name), bytes).expect("the folder is writable");
+    };
+    let plan = [registered(), first_plans(), rules(), second_plan()].concat();
+    write("plan.records", &encoded(&plan));
+    write("damaged.records", &damaged(&plan));
+    write("unmet.records", &encoded(&unmet()));
+    write("empty.records", &[]);
+}
+
+fn encoded(records: &[MetadataRecord]) -> Vec<u8> {
+    let encoded = records.iter().map(encode);
+    encoded
+        .flat_map(|record| record.expect("a kind that 01 has"))
+        .collect()
+}
+
+/// The sample with a wrong tag in its sixth record, and its last record cut.
+fn damaged(records: &[MetadataRecord]) -> Vec<u8> {
+    let mut bytes = encoded(records);
+    bytes[encoded(&records[..5]).len() + 3] = 9;
+    bytes.truncate(bytes.len() - 5);
+    bytes
+}
+
+/// A history that does not meet three of the theorem's premises: a partition
+/// has another number of replicas than its topic's replication factor, two
+/// topics share an id, and an epoch is negative.
+fn unmet() -> Vec<MetadataRecord> {
+    vec![
+        topic("plan-b", 7, 2, 3),
+        MetadataRecord::V1Partition(partition("plan-b", 1, &BROKERS)),
+        MetadataRecord::V1Partition(partition("plan-b", 0, &BROKERS[..2])),
+        topic("plan-b", 7, 9, 2),
+        topic("plan-a", 7, 1, 3),
+        features_epoch(-5),
+    ]
+}
+
+fn registered() -> Vec<MetadataRecord> {
+    let records = BROKERS.map(|node| MetadataRecord::V1BrokerRegistration(broker(node, 1)));
+    records.to_vec()
+}
+
+/// A partition of three replicas, of which so many are in sync.
+fn sheet(plan: &str, number: i32, in_sync: usize) -> MetadataRecord {
+    MetadataRecord::V1Partition(PartitionRecord {
+        leader: NodeId(1),
+        isr: BROKERS[..in_sync].iter().copied().map(NodeId).collect(),
+        ..partition(plan, number, &BROKERS)
+    })
+}
+
+/// Two plans with both sheets, and a sheet of a plan that there is not.
+fn first_plans() -> Vec<MetadataRecord> {
+    vec![
+        topic("plan-0042", 42, 2, 3),
+        sheet("plan-0042", 0, 3),
+        sheet("plan-0042", 1, 3),
+        topic("plan-0043", 43, 2, 3),
+        sheet("plan-0043", 0, 3),
+        sheet("plan-0043", 1, 2),
+        sheet("plan-0044", 0, 3),
+    ]
+}
+
+fn rules() -> Vec<MetadataRecord> {
+    vec![
+        broker_config(2, THROTTLE, Some("1048576")),
+        freeze("archive-", PatternType::Prefixed),
+    ]
+}
+
+/// The first plan again, with the room list alone.
+fn second_plan() -> Vec<MetadataRecord> {
+    vec![
+        delete_topic("plan-0042"),
+        topic("plan-0042", 142, 1, 3),
+        sheet("plan-0042", 0, 3),
+    ]
+}
