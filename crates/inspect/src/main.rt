@@ -6,7 +6,7 @@
 mod options;
 mod run;
 mod source;
-mod steps;
+mod verdicts;
 
 use options::Cuts;
 use options::Options;

@@ -4,16 +4,16 @@ use crate::source::passed;
 use crate::source::refill;
 use crate::source::start;
 use crate::source::tell_progress;
-use crate::steps::cut;
-use crate::steps::is_same;
-use crate::steps::say_in_words;
-use crate::steps::say_record;
-use crate::steps::say_said;
-use crate::steps::step;
+use crate::verdicts::is_same;
+use crate::verdicts::say_in_words;
+use crate::verdicts::say_record;
+use crate::verdicts::say_said;
 use report::snapshots::same_snapshots;
 use report::text::say;
 use report::text::say_of;
 use shape_faults::PAST_THE_END;
+use steps::cut;
+use steps::give;
 ghost use mathlib.Core.Path.{_≡_};
 ghost use Prim.Native.Nat.{_+_, _≤_, _<_};
 ghost use lib.ListN.{length};
@@ -70,12 +70,12 @@ fn is_changed(plain: &mut [u8], other: &mut [u8], place: u64, rec: &[u8], cuts: 
     if rec.len() == 0 {
         return false;
     }
-    let said = step(plain, rec);
+    let said = give(plain, rec);
     say_record(place, rec[0], said);
     if !cuts.any {
         return false;
     }
-    let after = step(other, rec);
+    let after = give(other, rec);
     if is_same(said, after) {
         return false;
     }

@@ -1,0 +1,65 @@
+-- `steps::cut` meets its contract: by what the snapshot says.
+use mathlib.Core.Path.{sym, ap, _∙_}
+use lib.Seq.{length-take-le}
+use borrow.Author.Needs.{needs}
+use Rattle.records.specs.Answers.{replied}
+use Rattle.steps.proofs.Moves.{written-fits, cut-taken, cut-refused}
+use Rattle.steps.proofs.cut.Statement.{statement}
+use Rattle.steps.proofs.cut.Tie as tie
+use Rattle.steps.proofs.cut.Reads as reads
+use Rattle.steps.proofs.cut.Lts as lts
+use Rattle.apply.proofs.restore.Reads as restore-reads
+use Rattle.snapshot.proofs.snapshot.Reads as snapshot-reads
+
+snapshot-requires : tie.Need-snapshot-requires
+snapshot-requires c κs = search needs
+
+enum-known-n : tie.Need-enum-known-n
+enum-known-n c = search needs
+
+slice-reshare-prefix-restore : tie.Need-slice-reshare-prefix-restore
+slice-reshare-prefix-restore c = written-fits (c .before .before .before .before .before .before .before .before .before .before .before .args .image .now) (c .before .before .before .before .before .before .before .before .before .before .before .args .out .now) _ _ (ap replied (sym (c .before .before .n .given .1)) ∙ c .before .before .before .before .before .before .snapshot .ensures .0) (c .before .before .before .before .before .before .snapshot .ensures .1)
+
+slice-aggregate-restore : tie.Need-slice-aggregate-restore
+slice-aggregate-restore c = sym (length-take-le _ _ (written-fits (c .before .before .before .before .before .before .before .before .before .before .before .before .args .image .now) (c .before .before .before .before .before .before .before .before .before .before .before .before .args .out .now) _ _ (ap replied (sym (c .before .before .before .n .given .1)) ∙ c .before .before .before .before .before .before .before .snapshot .ensures .0) (c .before .before .before .before .before .before .before .snapshot .ensures .1)))
+
+restore-requires : tie.Need-restore-requires
+restore-requires c κs = search needs
+
+enum-known-number : tie.Need-enum-known-number
+enum-known-number c = search needs
+
+same-length : tie.Need-same-length
+same-length c = search needs
+
+same-length-2 : tie.Need-same-length-2
+same-length-2 c = search needs
+
+returns : tie.Need-returns
+returns c = cut-taken (c .before .before .before .before .before .before .before .before .before .before .before .before .before .before .before .args .image .now) (c .before .before .before .before .before .before .before .before .before .before .before .before .before .before .before .args .out .now) _ _ (ap replied (sym (c .before .before .before .before .before .before .n .given .1)) ∙ c .before .before .before .before .before .before .before .before .before .before .snapshot .ensures .0) (c .before .before .before .before .before .before .before .before .before .before .snapshot .ensures .1) _ (c .before .before .restore .ensures .1)
+
+same-length-3 : tie.Need-same-length-3
+same-length-3 c = search needs
+
+same-length-4 : tie.Need-same-length-4
+same-length-4 c = search needs
+
+returns-2 : tie.Need-returns-2
+returns-2 c = cut-refused (c .before .before .before .before .before .before .before .before .before .before .args .image .now) (c .before .before .before .before .before .before .before .before .before .before .args .out .now) _ (ap replied (sym (c .before .number .given .1)) ∙ c .before .before .before .before .before .snapshot .ensures .0)
+
+pub cut-spec : {M : Type 1} → statement M
+cut-spec =
+    tie.close
+    (tie.spec
+    snapshot-requires
+    enum-known-n
+    slice-reshare-prefix-restore
+    slice-aggregate-restore
+    restore-requires
+    enum-known-number
+    same-length
+    same-length-2
+    returns
+    same-length-3
+    same-length-4
+    returns-2)

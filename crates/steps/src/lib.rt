@@ -1,0 +1,40 @@
+// The steps of a history that move an image, as the theorem has them: a record that is given, and a cut.
+use records::Answer;
+ghost use mathlib.Core.Path.{_≡_};
+ghost use lib.Dec.{eqb};
+ghost use Rattle.model.specs.History.{judged, imageAfter, cutImage};
+ghost use Rattle.model.specs.Snapshot.{snapshotOf};
+ghost use Rattle.steps.specs.Steps.{verdictOf};
+
+// What Validate says, and where that is 0 what Apply says, else 0.
+pub struct Said {
+    pub validate: u8,
+    pub apply: u8,
+}
+
+// Gives a record to Validate and, where that says 0, to Apply.
+pub fn give(image: &mut [u8], input: &[u8]) -> Said
+    ensures { λ r. ⌜ verdictOf r ≡ judged (now (input .entry)) (now (image .entry)) ⌝ }
+    ensures { λ _. ⌜ now (image .exit) ≡ imageAfter (now (input .entry)) (now (image .entry)) ⌝ }
+{
+    let validate = validate::validate(image, input);
+    if validate != 0 {
+        return Said { validate, apply: 0 };
+    }
+    let apply = apply::apply(image, input);
+    Said { validate, apply }
+}
+
+// A restart: a snapshot into `out`, and the image restored from it in its own buffer. Whether there was one: else the image stays.
+pub fn cut(image: &mut [u8], out: &mut [u8]) -> bool
+    ensures { λ r. ⌜ r ≡ eqb (snapshotOf (now (image .entry)) (now (out .entry)) .reply .number) 0 ⌝ }
+    ensures { λ _. ⌜ now (image .exit) ≡ cutImage (now (out .entry)) (now (image .entry)) (now (image .entry)) ⌝ }
+{
+    match snapshot::snapshot(image, out) {
+        Answer::Used(n) => {
+            apply::restore(image, &out[..n]);
+            true
+        }
+        Answer::Refused(number) => false,
+    }
+}
