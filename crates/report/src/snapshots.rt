@@ -2,20 +2,19 @@
 use crate::text::say;
 use crate::words::say_kind;
 use records::Answer;
+ghost use mathlib.Core.Path.{_≡_};
 ghost use Prim.Native.Nat.{_≤_, _<_};
-ghost use lib.ListN.{length};
+ghost use lib.ListN.{length, take};
+ghost use Rattle.model.specs.Order.{sameBytes};
+ghost use Rattle.model.specs.Snapshot.{snapshotOf};
+ghost use Rattle.model.specs.History.{written};
 
-// Takes a snapshot. How many bytes it has, 0 where there is none.
+// Takes a snapshot. How many bytes it has, 0 where it is refused.
 pub fn take_snapshot(image: &[u8], out: &mut [u8]) -> usize
-    ensures { λ r. ⌜ r ≤ length (now (out .exit)) ⌝ }
+    ensures { λ r. ⌜ (r ≤ length (now (out .exit))) × (take r (now (out .exit)) ≡ written (snapshotOf (now (image .entry)) (now (out .entry)))) ⌝ }
 {
     match snapshot::snapshot(image, out) {
-        Answer::Used(n) => {
-            if out.len() < n {
-                return 0;
-            }
-            n
-        }
+        Answer::Used(n) => n,
         Answer::Refused(number) => 0,
     }
 }
@@ -76,16 +75,20 @@ fn say_parting(records: &[u8], other: &[u8]) {
 }
 
 // Whether two snapshots have the same records; where not, says where they part.
-fn same_records(records: &[u8], other: &[u8]) -> bool {
-    if wire::same(records, other) {
-        return true;
+fn same_records(records: &[u8], other: &[u8]) -> bool
+    ensures { λ r. ⌜ r ≡ sameBytes (now (records .entry)) (now (other .entry)) ⌝ }
+{
+    let same = wire::same(records, other);
+    if !same {
+        say_parting(records, other);
     }
-    say_parting(records, other);
-    false
+    same
 }
 
 // Whether two images have the same snapshot; where not, says where they part.
-pub fn same_snapshots(plain: &[u8], other: &[u8], out: &mut [u8], more: &mut [u8]) -> bool {
+pub fn same_snapshots(plain: &[u8], other: &[u8], out: &mut [u8], more: &mut [u8]) -> bool
+    ensures { λ r. ⌜ r ≡ sameBytes (written (snapshotOf (now (plain .entry)) (now (out .entry)))) (written (snapshotOf (now (other .entry)) (now (more .entry)))) ⌝ }
+{
     let n = take_snapshot(plain, out);
     let m = take_snapshot(other, more);
     same_records(&out[..n], &more[..m])

@@ -1,3 +1,4 @@
 pub mod Trails
 pub mod Passes
 pub mod Emits
+pub mod Shots

@@ -3,7 +3,8 @@ use mathlib.Core.Path.{sym, ap, _∙_}
 use lib.Seq.{length-take-le}
 use borrow.Author.Needs.{needs}
 use Rattle.records.specs.Answers.{replied}
-use Rattle.steps.proofs.Moves.{written-fits, cut-taken, cut-refused}
+use Rattle.snapshot.proofs.Shots.{written-fits}
+use Rattle.steps.proofs.Moves.{cut-taken, cut-refused}
 use Rattle.steps.proofs.cut.Statement.{statement}
 use Rattle.steps.proofs.cut.Tie as tie
 use Rattle.steps.proofs.cut.Reads as reads

@@ -21,7 +21,7 @@ slice-reshare-prefix-say-entries : tie.Need-slice-reshare-prefix-say-entries
 slice-reshare-prefix-say-entries c = search needs
 
 slice-aggregate-say-entries : tie.Need-slice-aggregate-say-entries
-slice-aggregate-say-entries c = sym (length-take-le _ _ (c .before .before .before .take-snapshot .ensures))
+slice-aggregate-say-entries c = sym (length-take-le _ _ (c .before .before .before .take-snapshot .ensures .0))
 
 say-entries-requires : tie.Need-say-entries-requires
 say-entries-requires c κs = search needs

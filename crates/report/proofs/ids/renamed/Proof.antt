@@ -19,7 +19,7 @@ slice-reshare-prefix-count-renamed : tie.Need-slice-reshare-prefix-count-renamed
 slice-reshare-prefix-count-renamed c = search needs
 
 slice-aggregate-count-renamed : tie.Need-slice-aggregate-count-renamed
-slice-aggregate-count-renamed c = sym (length-take-le _ _ (c .before .before .before .take-snapshot .ensures))
+slice-aggregate-count-renamed c = sym (length-take-le _ _ (c .before .before .before .take-snapshot .ensures .0))
 
 count-renamed-requires : tie.Need-count-renamed-requires
 count-renamed-requires c κs = search needs

@@ -1,4 +1,4 @@
--- `report::snapshots::same_snapshots` ends, and stays in its buffers.
+-- `report::snapshots::same_snapshots` meets its contract: both snapshots are compared as they were written.
 use Prim.Native.Nat.{_-_, _≤_}
 use mathlib.Core.Path.{_≡_, sym}
 use native.Mathlib.Omega.{arith}
@@ -22,13 +22,13 @@ slice-reshare-prefix-same-records : tie.Need-slice-reshare-prefix-same-records
 slice-reshare-prefix-same-records c = search needs
 
 slice-aggregate-same-records : tie.Need-slice-aggregate-same-records
-slice-aggregate-same-records c = sym (length-take-le _ _ (c .before .before .before .before .before .before .before .take-snapshot .ensures))
+slice-aggregate-same-records c = sym (length-take-le _ _ (c .before .before .before .before .before .before .before .take-snapshot .ensures .0))
 
 slice-reshare-prefix-same-records-2 : tie.Need-slice-reshare-prefix-same-records-2
 slice-reshare-prefix-same-records-2 c = search needs
 
 slice-aggregate-same-records-2 : tie.Need-slice-aggregate-same-records-2
-slice-aggregate-same-records-2 c = sym (length-take-le _ _ (c .before .before .before .before .take-snapshot2 .ensures))
+slice-aggregate-same-records-2 c = sym (length-take-le _ _ (c .before .before .before .before .take-snapshot2 .ensures .0))
 
 same-records-requires : tie.Need-same-records-requires
 same-records-requires c κs = search needs
@@ -40,7 +40,7 @@ same-length-2 : tie.Need-same-length-2
 same-length-2 c = search needs
 
 returns : tie.Need-returns
-returns c = search needs
+returns c = rw (← c .before .before .before .before .before .before .before .before .before .take-snapshot .ensures .1, ← c .before .before .before .before .before .take-snapshot2 .ensures .1) (c .same-records .ensures)
 
 pub same-snapshots-spec : {M : Type 1} → statement M
 same-snapshots-spec =
