@@ -12,12 +12,12 @@ use Rattle.model.specs.Contents.{Entry, storable}
 use Rattle.model.specs.Move.{putM, plan}
 use Rattle.model.specs.declared.Kind.the-variants.{PartitionOffsetAdvance}
 use Rattle.laws.specs.Numbers.{length-bytes}
-use Rattle.laws_records.specs.Faults.{fault-whole, fault-short, set-fault}
+use Rattle.laws_records.specs.Faults.{set-fault}
 use Rattle.keys.specs.Keys.{kindIn, runIn}
 use Rattle.entries.specs.Entries.{IsRecord, recordIn}
 use Rattle.entries.proofs.Changes.{record-in}
-use Rattle.drafts.specs.Drafts.{spells, IsDraft}
-use Rattle.drafts.proofs.Drafts.{spells-record, held-draft, set-held}
+use Rattle.drafts.specs.Drafts.{spells, IsDraft, Drafted}
+use Rattle.drafts.proofs.Drafts.{spells-record, held-draft, set-held, copy-drafted}
 use Rattle.work.specs.Work.{Made}
 use Rattle.work.specs.declared.Room.{Room}
 use Rattle.moves.specs.Moves.{IsPlain}
@@ -36,24 +36,16 @@ module _ (advance : Bytes) (i : IsRecord advance) (is : recordIn advance .kind �
   -- 1. Built in a buffer that the advance was copied to
 
   module _ (b : Bytes) (n : ℕ) (copied : take n b ≡ advance) where
-    spelt : take n b ≡ spells (kindNumber PartitionOffsetAdvance) run
-    spelt =
-        copied
-        ∙ i .bytes
-        ∙ ap recordBytes (sym (record-in advance i))
-        ∙ sym (spells-record (recordIn advance))
-        ∙ ap (λ k. spells (kindNumber k) run) is
+    drafted : Drafted b n (kindNumber PartitionOffsetAdvance) run
+    drafted = copy-drafted advance i PartitionOffsetAdvance is copied
 
     pub copied-draft : IsDraft (take n b)
-    copied-draft =
-        held-draft b n (kindNumber PartitionOffsetAdvance) run spelt (fault-whole stored PartitionOffsetAdvance run passes)
-        (fault-short stored PartitionOffsetAdvance run passes)
+    copied-draft = held-draft drafted
 
     pub offset-drafted : (o : ℕ) {v : Bytes} → v ≡ bytes 8 (place 8 o) → {s : Bytes}
         → s ≡ spells (kindIn b) (setField 3 v (runIn (take n b))) → s ≡ recordBytes (offsetRec run o)
     offset-drafted o {v} ev e =
-        set-held b n (kindNumber PartitionOffsetAdvance) run spelt (fault-whole stored PartitionOffsetAdvance run passes)
-        (fault-short stored PartitionOffsetAdvance run passes) 3 v e
+        set-held drafted 3 v e
         ∙ ap (λ x. spells (kindNumber PartitionOffsetAdvance) (setField 3 x run)) ev
         ∙ spells-record (offsetRec run o)
 

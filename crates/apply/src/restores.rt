@@ -2,6 +2,7 @@
 use crate::step::State;
 use crate::step::Tried;
 use crate::step::step;
+use header::NO_EPOCH;
 use header::NO_IMAGE;
 use header::is_capacity;
 use lay::lay;
@@ -18,9 +19,6 @@ ghost use Rattle.model.specs.Snapshot.{restoreOf};
 ghost use Rattle.drafts.specs.Drafts.{draftRoom};
 ghost use Rattle.apply.specs.Step.{workRoom, Holding};
 ghost use Rattle.apply.specs.Restore.{NextIs, RanAs, Whole, wholeContents, restored};
-
-// The epoch before any, -1, by its bytes.
-const NO_EPOCH: u64 = 0xffff_ffff_ffff_ffff;
 
 // What the first of some records comes to: the state after it and how many bytes it has; Read's refusal, which leaves the work array as it was; or
 // Apply's.

@@ -13,9 +13,8 @@ use Rattle.model.specs.Shape.{rowsOf, stored, shapeOf}
 use Rattle.model.specs.Record.{Rec, rec, recordBytes}
 use Rattle.model.specs.Key.{rank, keyRank, partitionKey}
 use Rattle.model.specs.Contents.{part}
-use Rattle.model.specs.Image.{entryOf}
 use Rattle.model.specs.declared.Kind.the-variants.{Partition}
-use Rattle.laws_records.specs.Faults.{fault-whole, fault-short, set-fault}
+use Rattle.laws_records.specs.Faults.{set-fault}
 use Rattle.keys.specs.Keys.{kindIn, runIn}
 use Rattle.entries.specs.Entries.{Entries, Placed, IsRecord, recordIn}
 use Rattle.entries.proofs.Changes.{record-in}
@@ -25,16 +24,12 @@ use Rattle.judge.specs.Judge.{entriesIn}
 use Rattle.judge.proofs.Fields.{PartOf, lent-value}
 use Rattle.judge.proofs.Queries.{partition-query, partition-key, lent-query}
 use Rattle.judge.proofs.Held.{Held, held, none-held}
-use Rattle.moves.proofs.Singles.{record-size}
-use Rattle.drafts.specs.Drafts.{spells, IsDraft, draftRoom}
-use Rattle.drafts.proofs.Drafts.{spells-record, record-draft, set-held}
+use Rattle.drafts.specs.Drafts.{spells, IsDraft, Drafted, draftRoom}
+use Rattle.drafts.proofs.Drafts.{spells-record, held-draft, set-held, copy-drafted}
+use Rattle.work.proofs.Made.{record-size}
+use Rattle.work.proofs.Entries.{part-entry}
 use Rattle.assignments.specs.Assign.{IsAssignment, IsPartition, newDirectories, Built, Copied, Changed}
 use Rattle.assignments.proofs.Partitions.{partition-passes, name-fits, number-width}
-
--- a partition's record is its entry
-pub part-entry : (r : Rec) → r .kind ≡ Partition → entryOf r ≡ part (r .run)
-unfolding entryOf kindNumber
-part-entry r e = rw e
 
 -- 1. The partition that is sought
 
@@ -85,6 +80,9 @@ module _ (b s : Bytes) (n : ℕ) (p : IsPartition (take n b)) {dirs : Bytes} {si
   pub none-set : size ≡ 0 → (w : Bytes) → Changed (newDirectories (recordIn s .run) (recordIn (take n b) .run)) (recordIn (take n b) .run) w 0
   none-set z w = record { none = λ q. d .none z; there = λ q. absurd (omega arith); fits = omega arith }
 
+  drafted : Drafted b n (kindNumber Partition) (recordIn (take n b) .run)
+  drafted = copy-drafted (take n b) (p .is) Partition (p .kind) refl
+
   lent-size : length (take size dirs) ≡ size
   lent-size = length-take-le size dirs (d .fits)
 
@@ -93,7 +91,7 @@ module _ (b s : Bytes) (n : ℕ) (p : IsPartition (take n b)) {dirs : Bytes} {si
     may-set = (
       omega (arith, record-size (take n b) (p .is), length-take-le n b fits, lent-size, d .whole, d .few),
       omega (arith, lent-size, d .whole, d .few),
-      record-draft (take n b) (p .is),
+      held-draft drafted,
     )
 
     -- the record that stands there then
@@ -105,12 +103,8 @@ module _ (b s : Bytes) (n : ℕ) (p : IsPartition (take n b)) {dirs : Bytes} {si
         let run = recordIn (take n b) .run in
         let v = take size dirs in
         let ok = partition-passes (take n b) p in
-        let kinds : recordIn (take n b) .kind ≡ Partition = p .kind in
-        let old : p .is .value ≡ rec Partition run = sym (record-in (take n b) (p .is)) ∙ λ j. rec (kinds j) run in
-        let held-old : take n b ≡ spells (kindNumber Partition) run = p .is .bytes ∙ ap recordBytes old ∙ sym (spells-record (rec Partition run)) in
         let bytes : take r w ≡ recordBytes (rec Partition (setField 9 v run)) =
-        set-held b n (kindNumber Partition) run held-old (fault-whole stored Partition run ok) (fault-short stored Partition run ok) 9 v (said .0)
-        ∙ spells-record (rec Partition (setField 9 v run)) in
+        set-held drafted 9 v (said .0) ∙ spells-record (rec Partition (setField 9 v run)) in
         let passes = set-fault stored Partition run ok 9 refl v refl (omega (arith, lent-size, d .whole), omega (arith, lent-size, d .few)) in
         let i : IsRecord (take r w) = record { value = rec Partition (setField 9 v run); bytes = bytes; passes = passes } in
         let new : recordIn (take r w) ≡ rec Partition (setField 9 v run) = record-in (take r w) i in

@@ -20,11 +20,9 @@ use Rattle.laws.specs.Map.{Asc, get-in}
 use Rattle.entries.specs.Entries.{recordIn}
 use Rattle.work.specs.Work.{realsIn, groupsIn, Good, heldIn, Made}
 use Rattle.work.specs.declared.Room.{Room}
-use Rattle.work.proofs.Entries.{entries-put}
-use Rattle.work.proofs.Made.{made-none, made-one}
-use Rattle.moves.proofs.Singles.{record-size}
+use Rattle.work.proofs.Entries.{entries-put, part-entry}
+use Rattle.work.proofs.Made.{record-size, made-none, made-one}
 use Rattle.assignments.specs.Assign.{IsPartition, slotIn, newDirectories, Copied, Changed}
-use Rattle.assignments.proofs.Copies.{part-entry}
 use Rattle.assignments.proofs.Puts.{directories-put}
 
 -- a partition's record stands for its entry

@@ -23,7 +23,7 @@ use Rattle.entries.proofs.Changes.{record-in}
 use Rattle.stored.proofs.Records.{run-in}
 use Rattle.stored.proofs.Fields.{is-empty}
 use Rattle.judge.proofs.Fields.{PartOf, lent-value}
-use Rattle.broker_changes.specs.Change.{IsChange, Drafted, Suits, fencedBy, shutBy, withDirs, withCordoned}
+use Rattle.broker_changes.specs.Change.{IsChange, BrokerIn, Suits, fencedBy, shutBy, withDirs, withCordoned}
 use Rattle.broker_changes.proofs.Drafts.{run-is}
 
 -- 1. A change's fields
@@ -102,55 +102,55 @@ module _ (run : Run) (ok : fault stored BrokerRegistration run ≡ 0) where
   same-shut = same-value 10 refl refl
 
 module _ (change : Run) {n : ℕ} (e : n ≡ number (value 3 change)) {w : Bytes} {r : ℕ} (run : Run) where
-  pub unfenced : n ≡ 0 → Drafted w r (setField 9 (0 ∷ []) run) → Drafted w r (fencedBy change run)
+  pub unfenced : n ≡ 0 → BrokerIn w r (setField 9 (0 ∷ []) run) → BrokerIn w r (fencedBy change run)
   unfolding fencedBy
   unfenced z d = rw (← e, eq-eqb n 0 z) d
 
-  pub still-fenced : n ≡ 1 → Drafted w r run → Drafted w r (fencedBy change run)
+  pub still-fenced : n ≡ 1 → BrokerIn w r run → BrokerIn w r (fencedBy change run)
   unfolding fencedBy
   still-fenced z d =
       let apart : n ≡ 0 → ⊥ = λ q. omega arith in
-      rw (← e, ne-eqb n 0 apart, eq-eqb n 1 z) (subst (Drafted w r) (sym (same-fenced run (d .passes))) d)
+      rw (← e, ne-eqb n 0 apart, eq-eqb n 1 z) (subst (BrokerIn w r) (sym (same-fenced run (d .passes))) d)
 
-  pub fenced : (n ≡ 0 → ⊥) → (n ≡ 1 → ⊥) → Drafted w r (setField 9 (1 ∷ []) run) → Drafted w r (fencedBy change run)
+  pub fenced : (n ≡ 0 → ⊥) → (n ≡ 1 → ⊥) → BrokerIn w r (setField 9 (1 ∷ []) run) → BrokerIn w r (fencedBy change run)
   unfolding fencedBy
   fenced a b d = rw (← e, ne-eqb n 0 a, ne-eqb n 1 b) d
 
 module _ (change : Run) {n : ℕ} (e : n ≡ number (value 4 change)) {w : Bytes} {r : ℕ} (run : Run) where
-  pub shut-down : n ≡ 1 → Drafted w r (setField 10 (1 ∷ []) run) → Drafted w r (shutBy change run)
+  pub shut-down : n ≡ 1 → BrokerIn w r (setField 10 (1 ∷ []) run) → BrokerIn w r (shutBy change run)
   unfolding shutBy
   shut-down z d = rw (← e, eq-eqb n 1 z) d
 
-  pub still-up : (n ≡ 1 → ⊥) → Drafted w r run → Drafted w r (shutBy change run)
+  pub still-up : (n ≡ 1 → ⊥) → BrokerIn w r run → BrokerIn w r (shutBy change run)
   unfolding shutBy
-  still-up a d = rw (← e, ne-eqb n 1 a) (subst (Drafted w r) (sym (same-shut run (d .passes))) d)
+  still-up a d = rw (← e, ne-eqb n 1 a) (subst (BrokerIn w r) (sym (same-shut run (d .passes))) d)
 
 module _ (s : Bytes) (i : IsChange s) {w : Bytes} {r : ℕ} (run : Run) (start end : ℕ) where
-  pub no-dirs : PartOf s 5 start end → start ≡ end → Drafted w r run → Drafted w r (withDirs (recordIn s .run) run)
+  pub no-dirs : PartOf s 5 start end → start ≡ end → BrokerIn w r run → BrokerIn w r (withDirs (recordIn s .run) run)
   unfolding withDirs
   no-dirs p z d = rw (← is-empty s (i .is) 5 start end p, eq-eqb start end z) d
 
-  pub dirs-set : PartOf s 5 start end → (start ≡ end → ⊥) → Drafted w r (setField 8 (take (end - start) (drop start s)) run)
-      → Drafted w r (withDirs (recordIn s .run) run)
+  pub dirs-set : PartOf s 5 start end → (start ≡ end → ⊥) → BrokerIn w r (setField 8 (take (end - start) (drop start s)) run)
+      → BrokerIn w r (withDirs (recordIn s .run) run)
   unfolding withDirs
   dirs-set p a d =
-      rw (← is-empty s (i .is) 5 start end p, ne-eqb start end a) (subst (λ v. Drafted w r (setField 8 v run)) (part-value s i 5 start end p) d)
+      rw (← is-empty s (i .is) 5 start end p, ne-eqb start end a) (subst (λ v. BrokerIn w r (setField 8 v run)) (part-value s i 5 start end p) d)
 
   pub cordoned-set : PartOf s 6 start end → isSome (field 6 (recordIn s .run)) ≡ true
-      → Drafted w r (setField 11 (take (end - start) (drop start s)) run) → Drafted w r (withCordoned (recordIn s .run) run)
+      → BrokerIn w r (setField 11 (take (end - start) (drop start s)) run) → BrokerIn w r (withCordoned (recordIn s .run) run)
   unfolding withCordoned
-  cordoned-set p there d = go (field 6 (recordIn s .run)) there (subst (λ v. Drafted w r (setField 11 v run)) (part-value s i 6 start end p) d)
+  cordoned-set p there d = go (field 6 (recordIn s .run)) there (subst (λ v. BrokerIn w r (setField 11 v run)) (part-value s i 6 start end p) d)
     where
-      go : (o : Option Bytes) → isSome o ≡ true → Drafted w r (setField 11 (orEmpty o) run)
-          → Drafted w r (given o run (λ v. setField 11 v run))
+      go : (o : Option Bytes) → isSome o ≡ true → BrokerIn w r (setField 11 (orEmpty o) run)
+          → BrokerIn w r (given o run (λ v. setField 11 v run))
       go none t q = impossible cc
       go (some v) t q = q
 
-pub no-cordoned : (change : Run) {w : Bytes} {r : ℕ} {run : Run} → isSome (field 6 change) ≡ false → Drafted w r run → Drafted w r (withCordoned change run)
+pub no-cordoned : (change : Run) {w : Bytes} {r : ℕ} {run : Run} → isSome (field 6 change) ≡ false → BrokerIn w r run → BrokerIn w r (withCordoned change run)
 unfolding withCordoned
 no-cordoned change {w} {r} {run} none-there d = go (field 6 change) none-there
   where
-    go : (o : Option Bytes) → isSome o ≡ false → Drafted w r (given o run (λ v. setField 11 v run))
+    go : (o : Option Bytes) → isSome o ≡ false → BrokerIn w r (given o run (λ v. setField 11 v run))
     go none t = d
     go (some v) t = impossible cc
 
@@ -161,12 +161,12 @@ unfolding withCordoned withDirs shutBy fencedBy changedBroker
 all-steps change run = rw (value-set-other 9 (fencedAfter (number (value 3 change)) (value 9 run)) 10 (λ e. omega arith) run)
 
 -- a step after another, each by the fields as they are read
-pub step-on : (f : Run → Run) {b : Bytes} {n : ℕ} {run : Run} → Drafted b n run → {w : Bytes} {r : ℕ} → Drafted w r (f (runIn (take n b)))
-    → Drafted w r (f run)
-step-on f d {w} {r} e = subst (λ x. Drafted w r (f x)) (run-is d) e
+pub step-on : (f : Run → Run) {b : Bytes} {n : ℕ} {run : Run} → BrokerIn b n run → {w : Bytes} {r : ℕ} → BrokerIn w r (f (runIn (take n b)))
+    → BrokerIn w r (f run)
+step-on f d {w} {r} e = subst (λ x. BrokerIn w r (f x)) (run-is d) e
 
-pub all-set : (change run : Run) {b c d e : Bytes} {k m n r : ℕ} → Drafted b k (fencedBy change run)
-    → Drafted c m (shutBy change (runIn (take k b))) → Drafted d n (withDirs change (runIn (take m c)))
-    → Drafted e r (withCordoned change (runIn (take n d))) → Drafted e r (changedBroker change run)
+pub all-set : (change run : Run) {b c d e : Bytes} {k m n r : ℕ} → BrokerIn b k (fencedBy change run)
+    → BrokerIn c m (shutBy change (runIn (take k b))) → BrokerIn d n (withDirs change (runIn (take m c)))
+    → BrokerIn e r (withCordoned change (runIn (take n d))) → BrokerIn e r (changedBroker change run)
 all-set change run {e = e} {r = r} f s d c =
-    subst (Drafted e r) (all-steps change run) (step-on (withCordoned change) (step-on (withDirs change) (step-on (shutBy change) f s) d) c)
+    subst (BrokerIn e r) (all-steps change run) (step-on (withCordoned change) (step-on (withDirs change) (step-on (shutBy change) f s) d) c)

@@ -25,11 +25,10 @@ use Rattle.judge.proofs.Held.{held-run}
 use Rattle.judge.proofs.Epochs.{same-broker, no-broker, broker-epoch, broker-held}
 use Rattle.work.specs.Work.{Good, Made}
 use Rattle.work.specs.declared.Room.{Room}
-use Rattle.work.proofs.Made.{made-none}
+use Rattle.work.proofs.Made.{record-size, made-none}
 use Rattle.moves.specs.Moves.{IsPlain}
-use Rattle.moves.proofs.Singles.{record-size}
 use Rattle.drafts.specs.Drafts.{draftRoom}
-use Rattle.broker_changes.specs.Change.{IsChange, Drafted, Copied}
+use Rattle.broker_changes.specs.Change.{IsChange, BrokerIn, Copied}
 use Rattle.broker_changes.proofs.Drafts.{record-is}
 use Rattle.broker_changes.proofs.Fields.{step-on}
 
@@ -97,11 +96,11 @@ module _ (f : Run) (l : List Entry) {b : Bytes} {n : ℕ} (c : Copied (value 2 f
   unfolding plan
   none-changed z good = rw (c .none z) (made-none good)
 
-  pub broker-there : (n ≡ 0 → ⊥) → Drafted b n (orDone (brokerAt (value 1 f) l))
+  pub broker-there : (n ≡ 0 → ⊥) → BrokerIn b n (orDone (brokerAt (value 1 f) l))
   broker-there z = c .there (omega arith) .1
 
 -- a broker's record that was built is stored
-module _ {b : Bytes} {n : ℕ} {run : Run} (d : Drafted b n run) where
+module _ {b : Bytes} {n : ℕ} {run : Run} (d : BrokerIn b n run) where
   pub is-plain : IsPlain (recordIn (take n b))
   unfolding kindNumber
   is-plain = rw (record-is d) (record { no-topic = refl; no-partition = refl })
@@ -111,7 +110,7 @@ module _ {b : Bytes} {n : ℕ} {run : Run} (d : Drafted b n run) where
   stored-move = ap (λ (r : Rec). setOrDrop (storable (r .kind) (r .run)) r) (record-is d)
 
 pub broker-changed : (f : Run) (l : List Entry) {b : Bytes} {n : ℕ} → Copied (value 2 f) (brokerAt (value 1 f) l) b n → (n ≡ 0 → ⊥)
-    → {u : Bytes} {m : ℕ} → Drafted u m (changedBroker f (runIn (take n b))) → {w v : Bytes} {room r : Room}
+    → {u : Bytes} {m : ℕ} → BrokerIn u m (changedBroker f (runIn (take n b))) → {w v : Bytes} {room r : Room}
     → Made (setOrDrop (storable (recordIn (take m u) .kind) (recordIn (take m u) .run)) (recordIn (take m u)) ∷ []) w room v r
     → Made (plan BrokerRegistrationChange f l) w room v r
 unfolding plan

@@ -23,7 +23,7 @@ pub record IsChange (s : Bytes) : Type 0 where
   pub kind : recordIn s .kind ≡ BrokerRegistrationChange
 
 -- a buffer that begins with a broker's record
-pub record Drafted (b : Bytes) (n : ℕ) (run : Run) : Type 0 where
+pub record BrokerIn (b : Bytes) (n : ℕ) (run : Run) : Type 0 where
   pub bytes : take n b ≡ recordBytes (rec BrokerRegistration run)
   pub passes : fault stored BrokerRegistration run ≡ 0
   pub fits : n ≤ length b
@@ -40,7 +40,7 @@ pub record Suits (tag : ℕ) (v : Bytes) : Type 0 where
 -- a buffer after the broker at an epoch was copied to its start: nothing where there is none
 pub record Copied (epoch : Bytes) (o : Option Run) (b : Bytes) (n : ℕ) : Type 0 where
   pub none : n ≡ 0 → atEpoch epoch o ≡ false
-  pub there : 0 < n → (atEpoch epoch o ≡ true) × Drafted b n (orDone o)
+  pub there : 0 < n → (atEpoch epoch o ≡ true) × BrokerIn b n (orDone o)
 
 -- the steps of a change, each of one field: fenced, in controlled shutdown, log directories, cordoned ones
 unfoldable pub fencedBy : Run → Run → Run

@@ -8,20 +8,20 @@ ghost use Rattle.model.specs.Run.{setField};
 ghost use Rattle.model.specs.Move.{changedBroker};
 ghost use Rattle.keys.specs.Keys.{runIn};
 ghost use Rattle.entries.specs.Entries.{recordIn};
-ghost use Rattle.broker_changes.specs.Change.{IsChange, Drafted, Suits, fencedBy, shutBy, withDirs, withCordoned};
+ghost use Rattle.broker_changes.specs.Change.{IsChange, BrokerIn, Suits, fencedBy, shutBy, withDirs, withCordoned};
 
 // Sets a field of the broker. Its length then.
 fn replace(b: &mut [u8], n: usize, tag: u8, v: &[u8]) -> usize
-    requires { ⌜ Drafted (now b) n (runIn (take n (now b))) × Suits tag (now v) ⌝ }
-    ensures { λ r. ⌜ Drafted (now (b .exit)) r (setField tag (now (v .entry)) (runIn (take n (now (b .entry))))) ⌝ }
+    requires { ⌜ BrokerIn (now b) n (runIn (take n (now b))) × Suits tag (now v) ⌝ }
+    ensures { λ r. ⌜ BrokerIn (now (b .exit)) r (setField tag (now (v .entry)) (runIn (take n (now (b .entry))))) ⌝ }
 {
     set_field(b, n, tag, v)
 }
 
 // Fenced or not: 0 unfences the broker, 1 leaves it as it is, 2 fences it.
 fn fence(b: &mut [u8], n: usize, rec: &[u8]) -> usize
-    requires { ⌜ Drafted (now b) n (runIn (take n (now b))) × IsChange (now rec) ⌝ }
-    ensures { λ r. ⌜ Drafted (now (b .exit)) r (fencedBy (recordIn (now (rec .entry)) .run) (runIn (take n (now (b .entry))))) ⌝ }
+    requires { ⌜ BrokerIn (now b) n (runIn (take n (now b))) × IsChange (now rec) ⌝ }
+    ensures { λ r. ⌜ BrokerIn (now (b .exit)) r (fencedBy (recordIn (now (rec .entry)) .run) (runIn (take n (now (b .entry))))) ⌝ }
 {
     let fencing = number_of(rec, 3, 1);
     if fencing == 0 {
@@ -35,8 +35,8 @@ fn fence(b: &mut [u8], n: usize, rec: &[u8]) -> usize
 
 // In controlled shutdown, where the broker was or the change says so.
 fn shut(b: &mut [u8], n: usize, rec: &[u8]) -> usize
-    requires { ⌜ Drafted (now b) n (runIn (take n (now b))) × IsChange (now rec) ⌝ }
-    ensures { λ r. ⌜ Drafted (now (b .exit)) r (shutBy (recordIn (now (rec .entry)) .run) (runIn (take n (now (b .entry))))) ⌝ }
+    requires { ⌜ BrokerIn (now b) n (runIn (take n (now b))) × IsChange (now rec) ⌝ }
+    ensures { λ r. ⌜ BrokerIn (now (b .exit)) r (shutBy (recordIn (now (rec .entry)) .run) (runIn (take n (now (b .entry))))) ⌝ }
 {
     if number_of(rec, 4, 1) == 1 {
         return replace(b, n, 10, b"\x01");
@@ -46,8 +46,8 @@ fn shut(b: &mut [u8], n: usize, rec: &[u8]) -> usize
 
 // The log directories, where the change has any.
 fn set_dirs(b: &mut [u8], n: usize, rec: &[u8]) -> usize
-    requires { ⌜ Drafted (now b) n (runIn (take n (now b))) × IsChange (now rec) ⌝ }
-    ensures { λ r. ⌜ Drafted (now (b .exit)) r (withDirs (recordIn (now (rec .entry)) .run) (runIn (take n (now (b .entry))))) ⌝ }
+    requires { ⌜ BrokerIn (now b) n (runIn (take n (now b))) × IsChange (now rec) ⌝ }
+    ensures { λ r. ⌜ BrokerIn (now (b .exit)) r (withDirs (recordIn (now (rec .entry)) .run) (runIn (take n (now (b .entry))))) ⌝ }
 {
     let p = value_at(rec, 5);
     let start = p.start;
@@ -60,8 +60,8 @@ fn set_dirs(b: &mut [u8], n: usize, rec: &[u8]) -> usize
 
 // The cordoned directories, where the change has the field, also with none.
 fn set_cordoned(b: &mut [u8], n: usize, rec: &[u8]) -> usize
-    requires { ⌜ Drafted (now b) n (runIn (take n (now b))) × IsChange (now rec) ⌝ }
-    ensures { λ r. ⌜ Drafted (now (b .exit)) r (withCordoned (recordIn (now (rec .entry)) .run) (runIn (take n (now (b .entry))))) ⌝ }
+    requires { ⌜ BrokerIn (now b) n (runIn (take n (now b))) × IsChange (now rec) ⌝ }
+    ensures { λ r. ⌜ BrokerIn (now (b .exit)) r (withCordoned (recordIn (now (rec .entry)) .run) (runIn (take n (now (b .entry))))) ⌝ }
 {
     if !has(rec, 6) {
         return n;
@@ -74,8 +74,8 @@ fn set_cordoned(b: &mut [u8], n: usize, rec: &[u8]) -> usize
 
 // The broker after a change. Its length then.
 pub fn change(b: &mut [u8], n: usize, rec: &[u8]) -> usize
-    requires { ⌜ Drafted (now b) n (runIn (take n (now b))) × IsChange (now rec) ⌝ }
-    ensures { λ r. ⌜ Drafted (now (b .exit)) r (changedBroker (recordIn (now (rec .entry)) .run) (runIn (take n (now (b .entry))))) ⌝ }
+    requires { ⌜ BrokerIn (now b) n (runIn (take n (now b))) × IsChange (now rec) ⌝ }
+    ensures { λ r. ⌜ BrokerIn (now (b .exit)) r (changedBroker (recordIn (now (rec .entry)) .run) (runIn (take n (now (b .entry))))) ⌝ }
 {
     let fenced = fence(b, n, rec);
     let down = shut(b, fenced, rec);

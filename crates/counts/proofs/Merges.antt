@@ -55,7 +55,7 @@ merged-end {s} {at} h past =
     ap (every (countFits (recordsIn s))) (sym (no-records (drop at s) (drop-of-length-le s past))) ∙ h .same
 
 -- the rest as it is lent
-rest-lent : (s : Bytes) (from : ℕ) → from ≤ length s → take (length s - from) (drop from s) ≡ drop from s
+pub rest-lent : (s : Bytes) (from : ℕ) → from ≤ length s → take (length s - from) (drop from s) ≡ drop from s
 rest-lent s from h = lent-slice s from (length s) h ∙ slice-rest from s
 
 pub left-lent : {s : Bytes} {at from : ℕ} → Merged s at from

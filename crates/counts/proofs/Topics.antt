@@ -2,12 +2,12 @@
 use mathlib.Core.Path.{_≡_, refl, sym, ap, ap₂, _∙_}
 use mathlib.Core.List.{List, [], _∷_}
 use mathlib.Core.Bool.{true, false}
-use Prim.Native.Nat.{ℕ, _+_, _-_, _≤_, _<_, Ordering·lt}
+use Prim.Native.Nat.{ℕ, _-_, _≤_, _<_, Ordering·lt}
 use native.Mathlib.Nat.{add-zero}
 use native.Mathlib.Omega.{arith}
 use borrow.Author.Tests.{eq-eqb, ne-eqb, le-leb, lt-leb}
 use lib.ListN.{length, getD, take, drop}
-use lib.Seq.{slice, getD-take, getD-drop}
+use lib.Seq.{getD-take, getD-drop}
 use Rattle.model.specs.Number.{Bytes, number}
 use Rattle.model.specs.Order.{compareBytes, compareKeys}
 use Rattle.model.specs.Run.{value}
@@ -23,7 +23,6 @@ use Rattle.laws.specs.Order.{thenBy-eq, Lt}
 use Rattle.laws_records.specs.Faults.{fault-value}
 use Rattle.laws_records.specs.Kinds.{number-injective}
 use Rattle.keys.specs.Keys.{runIn}
-use Rattle.keys.proofs.Found.{part-length}
 use Rattle.entries.specs.declared.Cursor.{Cursor}
 use Rattle.entries.proofs.Records.{record-run}
 use Rattle.entries.proofs.Turns.{Stands, lent, lent-keyed}
@@ -35,7 +34,7 @@ use Rattle.counts.proofs.Sides.{same-start}
 abbrev pub IsTopic : Rec → Type 0
 IsTopic r = kindNumber (r .kind) ≡ 1
 
-topic-kind : (k : Kind) → kindNumber k ≡ 1 → k ≡ Topic
+pub topic-kind : (k : Kind) → kindNumber k ≡ 1 → k ≡ Topic
 unfolding kindNumber
 topic-kind k e = number-injective k Topic e
 
@@ -70,13 +69,6 @@ module _ (l : List Rec) (r : Rec) where
   topic-exceeds e h = rw (eq-eqb _ _ e, lt-leb _ _ h)
 
 -- 2. By an entry's bytes
-
--- the number that a value of four bytes spells where it stands
-pub spelt-number : (s : Bytes) (a e : ℕ) (v : Bytes) → (slice a e s ≡ v) × (a ≤ e) × (e ≤ length s) → length v ≡ 4 → (r : ℕ)
-    → r ≡ number (slice a (a + 4) s) → r ≡ number v
-spelt-number s a e v p four r h =
-    let q : a + 4 ≡ e = omega (arith, part-length s a e v (p .1) (p .2) (p .0)) in
-    h ∙ ap number (ap (λ t. slice a t s) q ∙ p .0)
 
 first-byte : (r : Rec) → getD (recordBytes r) 0 0 ≡ kindNumber (r .kind)
 unfolding recordBytes

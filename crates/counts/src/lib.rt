@@ -1,6 +1,7 @@
 // Topics' counts: each at most its partitions' number, in one walk over the topics and one beside it over the partitions.
 use entries::Cursor;
 use entries::Step;
+use keys::number_at;
 use keys::rank_of;
 use keys::value_at;
 use model::Order;
@@ -9,7 +10,6 @@ ghost use mathlib.Core.Bool.{true};
 ghost use Prim.Native.Nat.{_≤_};
 ghost use lib.ListN.{length};
 ghost use Rattle.model.specs.Choice.{every};
-ghost use Rattle.model.specs.Number.{number};
 ghost use Rattle.model.specs.Order.{ordering};
 ghost use Rattle.model.specs.Run.{value};
 ghost use Rattle.model.specs.Map.{ascending};
@@ -90,16 +90,6 @@ fn count_for(topic: &[u8], s: &[u8]) -> Tally
     count_of(s, &topic[start..end])
 }
 
-// The count that a topic's record has.
-fn count_in(topic: &[u8]) -> u64
-    requires { ⌜ (3 ≤ length (now topic)) × (length (value 3 (runIn (now topic))) ≡ 4) ⌝ }
-    ensures { λ r. ⌜ r ≡ number (value 3 (runIn (now (topic .entry)))) ⌝ }
-{
-    let p = value_at(topic, 3);
-    let start = p.start;
-    wire::get(topic, start, 4)
-}
-
 // Whether each topic's count is at most its partitions' number. Topics, which are of kind 1, and partitions ascend by name both, so those of
 // the next topic stand at `from` or after it.
 pub fn counts_fit(s: &[u8]) -> bool
@@ -116,7 +106,7 @@ pub fn counts_fit(s: &[u8]) -> bool
                     continue;
                 }
                 let n = count_for(&s[start..end], &s[from..]);
-                if n.count < count_in(&s[start..end]) {
+                if n.count < number_at(&s[start..end], 3, 4) {
                     return false;
                 }
                 from = from + n.end;

@@ -21,9 +21,9 @@ use Rattle.laws.specs.Lists.{joined-append}
 use Rattle.laws_records.specs.Emits.{emit-fits, emit-short}
 use Rattle.laws_image.specs.Tests.{capacity-most}
 use Rattle.records.specs.Answers.{written}
-use Rattle.keys.proofs.Found.{lent-slice}
-use Rattle.entries.specs.Entries.{recordsIn, Entries}
+use Rattle.entries.specs.Entries.{recordsIn}
 use Rattle.reals.specs.Reals.{Reals}
+use Rattle.reals.proofs.Lent.{lent-part}
 use Rattle.downgrade.specs.Listed.{listedBytes, listedIn}
 
 -- records that are joined, and their bytes
@@ -33,12 +33,6 @@ joined-twice level (r ∷ l) =
     joined-append recordBytes (listed level (entryOf r)) (joined (listed level) (map entryOf l)) ∙ ap (λ x. listedBytes level r ++ x) (joined-twice level l)
 
 module _ (image : Bytes) {end : ℕ} (r : Reals image end) where
-  lent-part : take (end - headSize) (drop headSize image) ≡ slice headSize end image
-  lent-part = lent-slice image headSize end (r .low)
-
-  pub lent-entries : Entries (take (end - headSize) (drop headSize image))
-  lent-entries = rw lent-part (r .entries)
-
   pub lent-short : isImage image ≡ true → length (take (end - headSize) (drop headSize image)) ≤ 65536
   unfolding isImage
   lent-short is =
@@ -47,7 +41,7 @@ module _ (image : Bytes) {end : ℕ} (r : Reals image end) where
       let c = entriesOk image in
       let d = leb (weight (contentsOf image)) (length image) in
       let capacity = and-left a b (and-left (a && b) c (and-left (a && b && c) d is)) in
-      omega (arith, ap length lent-part ∙ length-slice headSize end image (r .high), capacity-most (length image) capacity, r .high)
+      omega (arith, ap length (lent-part image r) ∙ length-slice headSize end image (r .high), capacity-most (length image) capacity, r .high)
 
   module _ (level : ℕ) (out : Bytes) where
     all-bytes : joined recordBytes (downgrade level (contentsOf image)) ≡ listedIn level (take (end - headSize) (drop headSize image))
@@ -55,7 +49,7 @@ module _ (image : Bytes) {end : ℕ} (r : Reals image end) where
     all-bytes =
         ap (λ l. joined recordBytes (joined (listed level) l)) (r .held)
         ∙ joined-twice level (recordsIn (slice headSize end image))
-        ∙ ap (listedIn level) (sym lent-part)
+        ∙ ap (listedIn level) (sym (lent-part image r))
 
     emits : emit (downgrade level (contentsOf image)) out ≡ emitBytes (listedIn level (take (end - headSize) (drop headSize image))) out
     unfolding emit

@@ -7,7 +7,7 @@ use borrow.Author.Tests.{eq-eqb, ne-eqb, lt-ltb, le-ltb}
 use lib.ListN.{length, take, drop, length-append, length-drop, take-append-drop}
 use lib.Seq.{slice, take-at}
 use Rattle.model.specs.Number.{Bytes, AreBytes}
-use Rattle.model.specs.Run.{done, torn, item, runOf, bytesOf, setField}
+use Rattle.model.specs.Run.{done, torn, item, bytesOf, setField}
 use Rattle.laws.specs.Numbers.{slice-are-bytes}
 use Rattle.laws_records.specs.Runs.{Whole, bytes-run}
 use Rattle.fields.specs.Fields.{fieldsFrom}
@@ -15,6 +15,7 @@ use Rattle.fields.specs.declared.Cursor.{Cursor}
 use Rattle.fields.proofs.Took.{Moved}
 use Rattle.keys.specs.Keys.{runIn}
 use Rattle.keys.proofs.Found.{slice-rest}
+use Rattle.keys.proofs.Elements.{begins}
 use Rattle.records.specs.Answers.{head}
 use Rattle.drafts.specs.Drafts.{IsDraft, Spot}
 
@@ -25,9 +26,6 @@ pub record Ahead (s : Bytes) (tag : ℕ) (c : Cursor) : Type 0 where
   pub last : c .to ≡ length s
   pub whole : Whole (fieldsFrom s c)
   pub same : (w : Bytes) → take (c .at) s ++ bytesOf (setField tag w (fieldsFrom s c)) ≡ take 3 s ++ bytesOf (setField tag w (runIn s))
-
-begins : (s : Bytes) → fieldsFrom s (record { at = 3; to = length s }) ≡ runIn s
-begins s = ap runOf (slice-rest 3 s)
 
 pub ahead-start : (s : Bytes) (tag : ℕ) → IsDraft s → Ahead s tag (record { at = 3; to = length s })
 ahead-start s tag d = record {

@@ -5,7 +5,7 @@ use Prim.Native.Nat.{ℕ, _≤_}
 use lib.ListN.{length, take, drop}
 use Rattle.model.specs.Number.{Bytes, bytes}
 use Rattle.model.specs.Run.{Run, bytesOf, setField}
-use Rattle.laws_records.specs.Runs.{Whole}
+use Rattle.laws_records.specs.Runs.{Whole, Short}
 use Rattle.keys.specs.Keys.{runIn}
 use Rattle.records.specs.Answers.{head}
 
@@ -21,6 +21,12 @@ draftRoom = 40960
 pub record IsDraft (s : Bytes) : Type 0 where
   pub headed : 3 ≤ length s
   pub whole : Whole (runIn s)
+
+-- a buffer that begins with a record whose fields can be set
+pub record Drafted (b : Bytes) (n kind : ℕ) (run : Run) : Type 0 where
+  pub spelt : take n b ≡ spells kind run
+  pub whole : Whole run
+  pub short : Short run
 
 -- where a field of a tag goes: what is set there, between what stands before and after it, makes the fields with that field set
 pub record Spot (s : Bytes) (tag start end : ℕ) : Type 0 where

@@ -1,12 +1,7 @@
 // The features epoch and the kraft version after a record.
-use keys::value_at;
+use keys::number_at;
 ghost use mathlib.Core.Path.{_≡_};
-ghost use Prim.Native.Nat.{_≤_};
-ghost use lib.ListN.{length};
-ghost use Rattle.model.specs.Number.{number};
-ghost use Rattle.model.specs.Run.{value};
 ghost use Rattle.model.specs.Move.{bumped};
-ghost use Rattle.keys.specs.Keys.{runIn};
 ghost use Rattle.judge.specs.Judge.{IsLogged, loggedIn};
 ghost use Rattle.fixed_parts.specs.Fixed.{epochAfter, kraftAfter};
 
@@ -36,16 +31,6 @@ fn bump(epoch: u64) -> u64
     epoch
 }
 
-// The number that a record's first field spells, by its width.
-fn number_at(rec: &[u8], width: usize) -> u64
-    requires { ⌜ (3 ≤ length (now rec)) × (width ≤ 8) × (length (value 1 (runIn (now rec))) ≡ width) ⌝ }
-    ensures { λ r. ⌜ r ≡ number (value 1 (runIn (now (rec .entry)))) ⌝ }
-{
-    let p = value_at(rec, SET_TO);
-    let start = p.start;
-    wire::get(rec, start, width)
-}
-
 // The features epoch after a record that Read accepts.
 pub fn epoch_after(rec: &[u8], epoch: u64) -> u64
     requires { ⌜ IsLogged (now rec) ⌝ }
@@ -55,7 +40,7 @@ pub fn epoch_after(rec: &[u8], epoch: u64) -> u64
         return bump(epoch);
     }
     if rec[0] == FEATURES_EPOCH {
-        return number_at(rec, 8);
+        return number_at(rec, SET_TO, 8);
     }
     epoch
 }
@@ -66,7 +51,7 @@ pub fn kraft_after(rec: &[u8], kraft: u64) -> u64
     ensures { λ r. ⌜ r ≡ kraftAfter (loggedIn (now (rec .entry))) kraft ⌝ }
 {
     if rec[0] == KRAFT_VERSION {
-        return number_at(rec, 2);
+        return number_at(rec, SET_TO, 2);
     }
     kraft
 }

@@ -10,7 +10,6 @@ use lib.ListN.{length}
 use Rattle.model.specs.Number.{Bytes, AreBytes}
 use Rattle.model.specs.Run.{values}
 use Rattle.model.specs.Kind.{kindNumber}
-use Rattle.model.specs.Shape.{stored}
 use Rattle.model.specs.Record.{Rec, recordBytes}
 use Rattle.model.specs.Key.{startsWith}
 use Rattle.model.specs.Map.{put, remove, any}
@@ -19,18 +18,17 @@ use Rattle.model.specs.Image.{entryOf}
 use Rattle.model.specs.Move.{joinM, leaveM, onReal, onEmpties}
 use Rattle.model.specs.declared.Kind.{Kind}
 use Rattle.laws.specs.Count.{any-map}
-use Rattle.laws_records.specs.Faults.{fault-length}
 use Rattle.laws_image.specs.Entries.{entry-key}
 use Rattle.laws_image.specs.Groups.{Grouped, config, quota, group-key, group-is-group}
 use Rattle.keys.specs.Keys.{keyIn}
 use Rattle.entries.specs.Entries.{IsRecord, recordIn}
 use Rattle.entries.proofs.Changes.{record-in, key-in}
 use Rattle.groups.specs.Groups.{apartIn}
-use Rattle.work.specs.Work.{realsIn, groupsIn, Good, heldIn, mostRecord, Made}
+use Rattle.work.specs.Work.{realsIn, groupsIn, Good, heldIn, Made}
 use Rattle.work.specs.declared.Room.{Room}
-use Rattle.work.proofs.Made.{made-one}
+use Rattle.work.proofs.Made.{record-size, made-one}
 use Rattle.work.proofs.Entries.{entries-put, entries-remove, entry-plain}
-use Rattle.group_moves.proofs.Records.{record-passes, record-long, group-in, group-key-in}
+use Rattle.group_moves.proofs.Records.{group-in, group-key-in}
 
 -- 1. A member's entry is its record
 
@@ -45,10 +43,6 @@ member-plain r g = let n = no-topic g in entry-plain r (n .0) (n .1)
 pub member-kept : (r : Rec) → Grouped (r .kind) → kept (entryOf r) ≡ r
 unfolding kept
 member-kept r g = ap kept (member-plain r g)
-
--- and no longer than the longest
-pub record-most : (s : Bytes) → IsRecord s → length s ≤ mostRecord
-record-most s i = omega (arith, record-long s i, fault-length stored (recordIn s .kind) (recordIn s .run) (record-passes s i))
 
 -- 2. A member and its group, by their bytes
 
@@ -72,7 +66,7 @@ module _ (s g : Bytes) (are : AreBytes s) (i : IsRecord s) (grouped : Grouped (r
         ∙ entries-put (recordIn s) (realsIn w room)
         ∙ ap (λ x. put key x (heldIn w room)) (member-plain (recordIn s) grouped))
         (p .2 ∙ d .2 ∙ ap (λ k. remove recordKey k (groupsIn w room)) (group-key-in s g are i grouped e))
-        (omega (arith, d .3, p .3, record-most s i))
+        (omega (arith, d .3, p .3, record-size s i))
 
     -- the member is taken out
     module _ (d : Good v r × (realsIn v r ≡ remove recordKey (keyIn s) (realsIn w room)) × (groupsIn v r ≡ groupsIn w room) × (r .used ≤ room .used)) where
@@ -109,4 +103,4 @@ module _ (s g : Bytes) (are : AreBytes s) (i : IsRecord s) (grouped : Grouped (r
             let none = not-true more (sym others ∙ last) in
             made-one (leaveM (recordIn s)) (p .0) (ap (map entryOf) (p .1) ∙ left)
             (rw none (p .2 ∙ ap (put recordKey (recordIn g)) (d .2) ∙ ap (λ x. put recordKey x (groupsIn w room)) (group-in s g are i grouped e)))
-            (omega (arith, d .3, p .3, short, record-most s i))
+            (omega (arith, d .3, p .3, short, record-size s i))

@@ -36,7 +36,7 @@ wrote x y v w at fits e written =
 -- 1. A member, by its bytes
 
 module _ (s : Bytes) (i : IsRecord s) where
-  pub record-passes : fault stored (recordIn s .kind) (recordIn s .run) ≡ 0
+  record-passes : fault stored (recordIn s .kind) (recordIn s .run) ≡ 0
   record-passes = rw (record-in s i) (i .passes)
 
   run-of : runIn s ≡ recordIn s .run
@@ -46,7 +46,7 @@ module _ (s : Bytes) (i : IsRecord s) where
   unfolding recordBytes
   kind-first = ap (take 1) (i .bytes) ∙ ap (λ r. kindNumber (r .kind) ∷ []) (sym (record-in s i))
 
-  pub record-long : length s ≡ 3 + length (bytesOf (recordIn s .run))
+  record-long : length s ≡ 3 + length (bytesOf (recordIn s .run))
   record-long = ap length (i .bytes) ∙ length-record (i .value) ∙ ap (λ r. 3 + length (bytesOf (r .run))) (sym (record-in s i))
 
 -- 2. Its group's record, written

@@ -64,7 +64,7 @@ fn is_apart(s: &[u8], g: &[u8]) -> bool
 
 // Puts a member among the real entries: its group is not empty then.
 pub fn join(w: &mut [u8], b: &mut [u8], room: Room, rec: &[u8]) -> Room
-    requires { ⌜ Good (now w) room × IsRecord (now rec) × Grouped (recordIn (now rec) .kind) × (isConfig (recordIn (now rec)) || typesInOrder (values 1 (recordIn (now rec) .run)) ≡ true) × (room .used + mostRecord ≤ length (now w)) × (length (now rec) + 3 ≤ length (now b)) ⌝ }
+    requires { ⌜ Good (now w) room × IsRecord (now rec) × Grouped (recordIn (now rec) .kind) × (room .used + mostRecord ≤ length (now w)) × (length (now rec) + 3 ≤ length (now b)) ⌝ }
     ensures { λ r. ⌜ Made (joinM (recordIn (now (rec .entry))) ∷ []) (now (w .entry)) room (now (w .exit)) r ⌝ }
 {
     let n = group_record(b, rec);

@@ -15,7 +15,7 @@ const LEAST_CAPACITY: usize = 128;
 const MOST_CAPACITY: usize = 65536;
 
 // The epoch before any, -1, by its bytes.
-const NO_EPOCH: u64 = 0xffff_ffff_ffff_ffff;
+pub const NO_EPOCH: u64 = 0xffff_ffff_ffff_ffff;
 
 // Refusal 1: no image, or for Open no capacity.
 pub const NO_IMAGE: u8 = 1;

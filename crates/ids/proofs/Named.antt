@@ -94,17 +94,12 @@ module _ (s : Bytes) (i : IsRecord s) where
   pub not-topic : (getD s 0 0 ≡ 1 → ⊥) → false ≡ isNamed (recordIn s)
   not-topic h = sym (other-unnamed (recordIn s) (λ e. h (kind-in ∙ e)))
 
-  module _ (e : getD s 0 0 ≡ 1) (a z : ℕ) (p : Found s 5 a z) where
-    flag-end : z ≡ a + 5
-    flag-end = part-length s a z (value 5 (runIn s)) (p .1) (p .2) (p .0) ∙ ap (λ n. a + n) (widths (sym kind-in ∙ e) .1)
+  module _ (e : getD s 0 0 ≡ 1) where
+    pub flag-width : length (value 5 (runIn s)) ≡ 5
+    flag-width = widths (sym kind-in ∙ e) .1
 
-    pub flag-fits : a + 5 ≤ length s
-    flag-fits = omega (arith, flag-end, p .2)
-
-    pub flag-says : (n : ℕ) → n ≡ number (slice a (a + 5) s) → eqb n 1 ≡ isNamed (recordIn s)
-    flag-says n h =
-        ap (λ x. eqb x 1) (h ∙ ap number (ap (λ x. slice a x s) (sym flag-end) ∙ p .0) ∙ ap (λ x. number (value 5 x)) run-in)
-        ∙ sym (topic-named (recordIn s) (sym kind-in ∙ e))
+    pub flag-says : (n : ℕ) → n ≡ number (value 5 (runIn s)) → eqb n 1 ≡ isNamed (recordIn s)
+    flag-says n h = ap (λ x. eqb x 1) (h ∙ ap (λ x. number (value 5 x)) run-in) ∙ sym (topic-named (recordIn s) (sym kind-in ∙ e))
 
   -- whether it is named for an id
   module _ (id v : Bytes) (b : Bool) (is : v ≡ value 2 (runIn s)) (same : b ≡ sameBytes v id) where

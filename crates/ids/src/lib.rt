@@ -2,6 +2,7 @@
 // where an id's mark is there.
 use entries::Cursor;
 use entries::Step;
+use keys::number_at;
 use keys::value_at;
 ghost use mathlib.Core.Path.{_≡_};
 ghost use mathlib.Core.Bool.{true, not};
@@ -22,9 +23,7 @@ fn is_named(e: &[u8]) -> bool
     if e[0] != 1 {
         return false;
     }
-    let p = value_at(e, 5);
-    let start = p.start;
-    wire::get(e, start, 5) == 1
+    number_at(e, 5, 5) == 1
 }
 
 // Whether an entry is a topic that is named for an id.

@@ -1,19 +1,16 @@
 -- The exact test of a buffer, exit by exit.
-use mathlib.Core.Path.{_≡_, refl, sym, ap, ap₂, _∙_}
+use mathlib.Core.Path.{_≡_, refl, sym, ap, _∙_}
 use mathlib.Core.Bool.{Bool, true, false, not, _&&_}
-use mathlib.Core.List.{map}
 use Prim.Native.Nat.{ℕ, _+_, _-_, _*_, _≤_}
 use native.Mathlib.Omega.{arith}
-use native.Mathlib.Decide.{decLt}
-use borrow.Author.Tests.{not-true, not-false, le-leb, lt-leb, leb-true, leb-false}
+use borrow.Author.Tests.{not-true, leb-true, leb-false}
 use lib.Dec.{leb}
 use lib.ListN.{length, take, drop}
 use lib.Seq.{slice, length-slice}
 use Rattle.model.specs.Choice.{every}
 use Rattle.model.specs.Number.{Bytes, AreBytes}
-use Rattle.model.specs.Shape.{stored}
 use Rattle.model.specs.Key.{producerKey}
-use Rattle.model.specs.Items.{itemsOf, records, isWhole}
+use Rattle.model.specs.Items.{records, isWhole}
 use Rattle.model.specs.Map.{get}
 use Rattle.model.specs.Contents.{key, recordKey, fixedRoom, weight, sound}
 use Rattle.model.specs.Image.{isCapacity, headSize, usedIn, itemsIn, entryOf, flagReads, realOf, contentsOf, headerOk, entriesOk, isImage}
@@ -36,9 +33,6 @@ same-bound a b c d f g = go (leb a b) refl (leb c d) refl
     go true e false q = let h = f (leb-true a b e) in absurd (omega (arith, leb-false c d q))
     go false e true q = let h = g (leb-true c d q) in absurd (omega (arith, leb-false a b e))
     go false e false q = refl
-
-pub told : {a b : Bool} → a ≡ b → not a ≡ false → b ≡ true
-told {a} e h = sym e ∙ not-false a h
 
 module _ (b : Bytes) where
   pub head-there : isCapacity (length b) ≡ true → headSize ≤ length b

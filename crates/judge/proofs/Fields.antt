@@ -1,4 +1,4 @@
--- A field's value by the part of a record that it stands in: as it is lent, the number that it spells, and that number's place among signed ones.
+-- A field's value by the part of a record that it stands in, and the place of its number among signed ones.
 use mathlib.Core.Path.{_≡_, sym, ap, ap₂, _∙_}
 use mathlib.Core.Bool.{Bool}
 use mathlib.Core.List.{[], _∷_}
@@ -44,13 +44,6 @@ module _ (e : Bytes) (tag start end : ℕ) (h : PartOf e tag start end) where
       go : (v : Bytes) → end ≡ start + length v → eqb start end ≡ isEmpty v
       go [] q = eq-eqb start end (omega arith)
       go (x ∷ v) q = ne-eqb start end (λ p. omega arith)
-
-  module _ (width : ℕ) (wide : length (value tag (runIn e)) ≡ width) where
-    pub reaches : start + width ≤ length e
-    reaches = omega (arith, ends, h .2)
-
-    pub number-is : (n : ℕ) → (n ≡ number (slice start (start + width) e)) × (n < span width) → (n ≡ number (value tag (runIn e))) × (n < span width)
-    number-is n q = let same : start + width ≡ end = omega (arith, ends) in (q .0 ∙ ap number (ap (λ x. slice start x e) same ∙ h .0), q .1)
 
 pub no-scope : (e : Bytes) (start end : ℕ) → PartOf e 1 start end → eqb start end ≡ emptyScope (runIn e)
 unfolding emptyScope

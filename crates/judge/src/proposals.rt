@@ -3,10 +3,10 @@ use crate::lookups::find_named;
 use crate::refusals::CONSUMED;
 use crate::refusals::NO_EXTENSION;
 use crate::refusals::WITHDRAWN;
-use crate::values::number_in;
 use crate::values::unless;
 use fields::Cursor;
 use fields::Step;
+use keys::number_at;
 ghost use mathlib.Core.Path.{_≡_};
 ghost use mathlib.Core.Option.{some};
 ghost use Prim.Native.Nat.{_≤_};
@@ -99,10 +99,10 @@ fn stored_fault(e: &[u8], rec: &[u8]) -> u8
     requires { ⌜ (3 ≤ length (now e)) × (3 ≤ length (now rec)) × (length (value 9 (runIn (now e))) ≡ 8) × (length (value 10 (runIn (now e))) ≡ 1) ⌝ }
     ensures { λ r. ⌜ r ≡ proposalFault (runIn (now (rec .entry))) (some (runIn (now (e .entry)))) ⌝ }
 {
-    if number_in(e, 9, 8) != 0 {
+    if number_at(e, 9, 8) != 0 {
         return CONSUMED;
     }
-    if number_in(e, 10, 1) == 1 {
+    if number_at(e, 10, 1) == 1 {
         return WITHDRAWN;
     }
     unless(extends(e, rec), NO_EXTENSION)

@@ -4,13 +4,13 @@ use crate::lookups::is_stored;
 use crate::partitions::partitions_of;
 use crate::refusals::TOPIC_EXISTS;
 use crate::refusals::UNKNOWN_TOPIC;
-use crate::values::number_in;
 use crate::values::place_in;
 use crate::values::same_value;
 use crate::values::unless;
 use fields::Cursor;
 use fields::Found;
 use fields::field;
+use keys::number_at;
 use keys::value_at;
 ghost use mathlib.Core.Path.{_≡_};
 ghost use Prim.Native.Nat.{_≤_, _<_};
@@ -97,7 +97,7 @@ fn may_replace(rec: &[u8], e: &[u8], parts: u64) -> bool
     if !same_value(rec, e, 2) {
         return false;
     }
-    if number_in(rec, 4, 2) != number_in(e, 4, 2) {
+    if number_at(rec, 4, 2) != number_at(e, 4, 2) {
         return false;
     }
     parts + ZERO < place_in(rec, 3, 4)

@@ -1,10 +1,11 @@
 // Fields of a record, by its bytes, and a refusal by a test.
+use keys::number_at;
 use keys::value_at;
 ghost use mathlib.Core.Path.{_≡_};
 ghost use Prim.Native.Nat.{_≤_, _<_};
 ghost use lib.ListN.{length};
 ghost use Rattle.model.specs.Choice.{unless as unlessOf};
-ghost use Rattle.model.specs.Number.{number, span, half, place};
+ghost use Rattle.model.specs.Number.{number, half, place};
 ghost use Rattle.model.specs.Order.{sameBytes};
 ghost use Rattle.model.specs.Run.{value};
 ghost use Rattle.keys.specs.Keys.{runIn};
@@ -33,16 +34,6 @@ pub fn same_value(a: &[u8], b: &[u8], tag: usize) -> bool
     wire::same(&a[ps..pe], &b[qs..qe])
 }
 
-// The number that a field spells, by its width.
-pub fn number_in(e: &[u8], tag: usize, width: usize) -> u64
-    requires { ⌜ (3 ≤ length (now e)) × (width ≤ 8) × (length (value tag (runIn (now e))) ≡ width) ⌝ }
-    ensures { λ r. ⌜ (r ≡ number (value tag (runIn (now (e .entry))))) × (r < span width) ⌝ }
-{
-    let p = value_at(e, tag);
-    let start = p.start;
-    wire::get(e, start, width)
-}
-
 // How many of a width's signed numbers are negative.
 fn half_of(width: usize) -> u64
     requires { ⌜ (0 < width) × (width ≤ 8) ⌝ }
@@ -62,7 +53,7 @@ pub fn place_in(e: &[u8], tag: usize, width: usize) -> u64
     requires { ⌜ (3 ≤ length (now e)) × (0 < width) × (width ≤ 8) × (length (value tag (runIn (now e))) ≡ width) ⌝ }
     ensures { λ r. ⌜ r ≡ place width (number (value tag (runIn (now (e .entry))))) ⌝ }
 {
-    let n = number_in(e, tag, width);
+    let n = number_at(e, tag, width);
     let half = half_of(width);
     if n < half {
         return n + half;

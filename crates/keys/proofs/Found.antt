@@ -6,7 +6,7 @@ use Prim.Native.Nat.{ℕ, _+_, _-_, _≤_}
 use native.Mathlib.Omega.{arith}
 use lib.ListN.{length, take, drop}
 use lib.Seq.{slice, take-length, length-slice}
-use Rattle.model.specs.Number.{Bytes}
+use Rattle.model.specs.Number.{Bytes, number}
 use Rattle.model.specs.Run.{Run, field, value, orEmpty}
 use Rattle.fields.proofs.Parse.{take-drop}
 use Rattle.fields.specs.Fields.{held, Within}
@@ -43,3 +43,10 @@ within-part {to} {r} {start} {len} h w = let q : Within to (Part start len) = rw
 -- a part's length is its value's
 pub part-length : (s : Bytes) (a e : ℕ) (v : Bytes) → a ≤ e → e ≤ length s → slice a e s ≡ v → e ≡ a + length v
 part-length s a e v h k q = let w : e - a ≡ length v = sym (length-slice a e s k) ∙ ap length q in omega arith
+
+-- the number that a value of a width spells where it stands
+pub spelt-number : (s : Bytes) (a e : ℕ) (v : Bytes) → (slice a e s ≡ v) × (a ≤ e) × (e ≤ length s) → (width : ℕ) → length v ≡ width → (r : ℕ)
+    → r ≡ number (slice a (a + width) s) → r ≡ number v
+spelt-number s a e v p width wide r h =
+    let q : a + width ≡ e = omega (arith, part-length s a e v (p .1) (p .2) (p .0)) in
+    h ∙ ap number (ap (λ t. slice a t s) q ∙ p .0)

@@ -6,7 +6,7 @@ use mathlib.Core.Bool.{Bool, true, false}
 use Prim.Native.Nat.{ℕ, zero, suc, _≤_, _<_, Ordering, Ordering·lt, Ordering·eq, Ordering·gt}
 use native.Mathlib.Omega.{arith}
 use lib.ListN.{length, getD, drop}
-use Rattle.model.specs.Number.{Bytes, AreBytes}
+use Rattle.model.specs.Number.{Bytes, AreBytes, number, span}
 use Rattle.model.specs.Order.{Key, thenBy, lexicographic, compareBytes, compareKeys}
 use Rattle.model.specs.Run.{Run, runOf, field, value, values}
 use Rattle.model.specs.Kind.{kindOf}
@@ -14,7 +14,7 @@ use Rattle.model.specs.Key.{rank, rankPart, numberPart, partitionPart, namePart
 use Rattle.model.specs.declared.Kind.{Kind}
 use Rattle.model.specs.declared.Kind.the-variants.{Topic, Partition, BrokerRegistration, DeleteTopic, TopicConfig, BrokerConfig, ClientQuota, ProducerIds, UnregisterBroker, KRaftVersion, FeatureLevel, ClientMetricsConfig, FeaturesEpoch, PartitionDirAssignment, PartitionOffsetAdvance, GroupConfig, ControllerRegistration, TopicFreeze, BreakGlassProposal, DeleteBreakGlassProposal, PartitionElr, PartitionRecovery, PartitionUpdate, BrokerRegistrationChange, UnregisterController}
 use Rattle.laws.specs.Order.{Lt, lt-flip, rank-lt, bytes-total, keys-total}
-use Rattle.laws.specs.Numbers.{drop-are-bytes}
+use Rattle.laws.specs.Numbers.{drop-are-bytes, number-bound}
 use Rattle.laws_records.specs.Runs.{AreFields, fields-run}
 use Rattle.laws_records.specs.Fields.{Ascending, value-are-bytes}
 use Rattle.laws_image.specs.Ranks.{rank-injective, key-rank}
@@ -168,6 +168,11 @@ module _ (a b : Bytes) (x y : ℕ) (p : x ≡ rankOf (kindIn a)) (q : y ≡ rank
 pub known-bytes : (s : Bytes) → ((i : ℕ) → getD s i 0 < 256) → AreBytes s
 known-bytes [] h = tt
 known-bytes (x ∷ s) h = (h 0, known-bytes s (λ i. h (suc i)))
+
+-- a field's number is one of its width
+pub number-below : (s : Bytes) → AreBytes s → (tag width : ℕ) → length (value tag (runIn s)) ≡ width → number (value tag (runIn s)) < span width
+number-below s areBytes tag width wide =
+    rw wide at (number-bound (value tag (runIn s)) (value-are-bytes tag (runIn s) (fields-run (drop 3 s) (drop-are-bytes 3 s areBytes))))
 
 -- records of one rank: the same kind, or two that are in no snapshot
 same-kind : (r q : Run) → AreFields r → AreFields q → (k : Kind) → WidthsFit k r → WidthsFit k q → compareKeys (keyOf k r) (keyOf k q) ≡ byForm (keyForm k) r q

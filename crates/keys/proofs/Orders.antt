@@ -1,10 +1,9 @@
 -- Orders in steps: the first difference decides, and a part of one number compares as the number.
-use mathlib.Core.Path.{_≡_, refl, sym, ap, _∙_}
+use mathlib.Core.Path.{_≡_, refl, sym, _∙_}
 use mathlib.Core.List.{List, [], _∷_}
-use Prim.Native.Nat.{ℕ, _+_, _%_, _≤_, _<_, compare, Ordering, Ordering·lt, Ordering·eq, Ordering·gt}
+use Prim.Native.Nat.{ℕ, _≤_, _<_, compare, Ordering, Ordering·lt, Ordering·eq, Ordering·gt}
 use lib.ListN.{length}
-use lib.Seq.{slice}
-use Rattle.model.specs.Number.{Bytes, AreBytes, number, place}
+use Rattle.model.specs.Number.{Bytes, AreBytes, number}
 use Rattle.model.specs.Order.{thenBy, lexicographic, compareBytes, compareKeys, ordering}
 use Rattle.model.specs.declared.Order.{Order}
 use Rattle.model.specs.declared.Order.the-variants.{Less, Equal, Greater}
@@ -47,11 +46,6 @@ module _ (x y a b : ℕ) (p : x ≡ a) (q : y ≡ b) where
 -- numbers of one width compare as their bytes
 pub number-part : (a b : Bytes) → length a ≡ length b → AreBytes a → AreBytes b → compareBytes (number a ∷ []) (number b ∷ []) ≡ compareBytes a b
 number-part a b e p q = single (number a) (number b) ∙ sym (compare-number a b e p q)
-
--- the place of a partition's number, by its four bytes
-pub place-of : (s : Bytes) (a e : ℕ) (v : Bytes) (r : ℕ) → e ≡ a + 4 → slice a e s ≡ v → r ≡ number (slice a (a + 4) s)
-    → (r + 0x80000000) % 0x100000000 ≡ place 4 (number v)
-place-of s a e v r h q p = let w : r ≡ number v = p ∙ ap number (ap (λ t. slice a t s) (sym h) ∙ q) in rw w
 
 -- a number past the last kind has no rank and no form
 pub rank-past : (n : ℕ) → 26 ≤ n → 0 ≡ rankOf n

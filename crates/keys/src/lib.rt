@@ -73,6 +73,15 @@ pub fn value_at(s: &[u8], tag: usize) -> Part
     }
 }
 
+// The number that a field of a width spells.
+pub fn number_at(s: &[u8], tag: usize, width: usize) -> u64
+    requires { ⌜ (3 ≤ length (now s)) × (width ≤ 8) × (length (value tag (runIn (now s))) ≡ width) ⌝ }
+    ensures { λ r. ⌜ r ≡ number (value tag (runIn (now (s .entry)))) ⌝ }
+{
+    let p = value_at(s, tag);
+    wire::get(s, p.start, width)
+}
+
 // The order of two records' fields of a tag, by bytes.
 pub fn compare_field(a: &[u8], b: &[u8], tag: usize) -> Order
     requires { ⌜ (3 ≤ length (now a)) × (3 ≤ length (now b)) ⌝ }

@@ -8,30 +8,28 @@ use native.Mathlib.Omega.{arith}
 use borrow.Author.Tests.{not-true, not-false, leb-true, ne-eqb}
 use lib.Dec.{leb}
 use lib.ListN.{length, take, drop}
-use lib.Seq.{slice}
-use Rattle.model.specs.Choice.{orThen, unless}
+use Rattle.model.specs.Choice.{unless}
 use Rattle.model.specs.Number.{Bytes, bytes}
 use Rattle.model.specs.Order.{Key}
 use Rattle.model.specs.Text.{isText}
-use Rattle.model.specs.Run.{field}
 use Rattle.model.specs.Shape.{stringLimit, textFault}
-use Rattle.model.specs.Kind.{kindOf, kinds}
-use Rattle.model.specs.Key.{keyOf, subject, topicKey, partitionKey, nodeKey}
+use Rattle.model.specs.Kind.{kinds}
+use Rattle.model.specs.Key.{topicKey, partitionKey, nodeKey}
 use Rattle.model.specs.Record.{Rec}
 use Rattle.model.specs.Map.{get}
 use Rattle.model.specs.Contents.{Entry, key}
 use Rattle.model.specs.Image.{headSize, fixedIn, entryOf, isImage, contentsOf}
-use Rattle.model.specs.Reply.{Reply, accepted, refused, Ended, unchanged}
+use Rattle.model.specs.Reply.{Reply, accepted, refused, Ended}
 use Rattle.model.specs.Snapshot.{emit}
 use Rattle.model.specs.Lookup.{found, named, namedBy, topicByName, topicById, partitionOf, brokerOf, epochOf, shortCount, shortOf, throttle, throttleName, leaderRate, followerRate, alterLogDirsRate, freeze, asList, asValues, freezeOf, throttleOf}
-use Rattle.model.specs.declared.Kind.the-variants.{Topic, Partition, BrokerRegistration}
+use Rattle.model.specs.declared.Kind.the-variants.{Partition, BrokerRegistration}
 use Rattle.laws.specs.Choice.{orThen-right, unless-true}
-use Rattle.laws.specs.Numbers.{length-bytes}
 use Rattle.laws_image.specs.Tests.{capacity-least, image-holds}
-use Rattle.keys.proofs.Found.{lent-slice}
-use Rattle.entries.specs.Entries.{recordsIn, Entries}
-use Rattle.found.specs.Found.{Query, queryKey, foundIn, AllKept}
+use Rattle.entries.specs.Entries.{recordsIn}
+use Rattle.found.specs.Found.{queryKey, foundIn}
 use Rattle.reals.specs.Reals.{Reals}
+use Rattle.reals.proofs.Lent.{lent-held}
+use Rattle.judge.proofs.Queries.{topic-key, partition-key, broker-key}
 use Rattle.rates.specs.Rates.{rated}
 use Rattle.rates.specs.declared.Rate.{Rate}
 use Rattle.lookup.specs.Values.{rating, ratedAs}
@@ -39,25 +37,10 @@ use Rattle.lookup.specs.declared.Rated.{Rated}
 
 -- 1. The real entries, as they are lent
 
-module _ (image : Bytes) (end : ℕ) (r : Reals image end) where
-  abbrev lent : Bytes
-  lent = take (end - headSize) (drop headSize image)
-
-  lent-part : lent ≡ slice headSize end image
-  lent-part = lent-slice image headSize end (r .low)
-
-  pub lent-entries : Entries lent
-  lent-entries = rw lent-part (r .entries)
-
-  pub lent-kept : AllKept (recordsIn lent)
-  lent-kept = rw lent-part (r .keeps)
-
-  pub lent-held : map entryOf (recordsIn lent) ≡ contentsOf image .real
-  lent-held = ap (λ s. map entryOf (recordsIn s)) lent-part ∙ sym (r .held)
-
-  pub lent-found : (k : Key) → foundIn k lent ≡ found (get key k (contentsOf image .real))
-  unfolding foundIn
-  lent-found k = ap (λ l. found (get key k l)) lent-held
+pub lent-found : (image : Bytes) {end : ℕ} → Reals image end → (k : Key)
+    → foundIn k (take (end - headSize) (drop headSize image)) ≡ found (get key k (contentsOf image .real))
+unfolding foundIn
+lent-found image r k = ap (λ l. found (get key k l)) (lent-held image r)
 
 -- 2. What is asked for
 
@@ -65,36 +48,12 @@ pub name-fits : (name : Bytes) → 0 ≡ textFault stringLimit name → length n
 name-fits name e =
     leb-true (length name) stringLimit (unless-true (leb (length name) stringLimit) 5 (omega arith) (orThen-right (unless (isText name) 4) (unless (leb (length name) stringLimit) 5) (sym e)))
 
-pub topic-query : (name : Bytes) → length name ≤ 255 → Query 1 name []
-unfolding kindOf kinds field
-topic-query name h = record { of = Topic; known = refl; first-fits = h; second-fits = omega arith; widths = tt }
-
-pub partition-query : (name number : Bytes) → length name ≤ 255 → length number ≡ 4 → Query 2 name number
-unfolding kindOf kinds field
-partition-query name number h k = record { of = Partition; known = refl; first-fits = h; second-fits = omega arith; widths = k }
-
-pub broker-query : (node : Bytes) → length node ≡ 8 → Query 3 node []
-unfolding kindOf kinds field
-broker-query node k = record { of = BrokerRegistration; known = refl; first-fits = omega arith; second-fits = omega arith; widths = k }
-
-topic-key : (name : Bytes) → queryKey 1 name [] ≡ topicKey name
-unfolding queryKey kindOf kinds keyOf subject field
-topic-key name = refl
-
-partition-key : (name number : Bytes) → queryKey 2 name number ≡ partitionKey Partition name number
-unfolding queryKey kindOf kinds keyOf subject field
-partition-key name number = refl
-
-broker-key : (node : Bytes) → queryKey 3 node [] ≡ nodeKey BrokerRegistration node
-unfolding queryKey kindOf kinds keyOf subject field
-broker-key node = refl
-
 pub image-head : (image : Bytes) → isImage image ≡ true → headSize ≤ length image
 image-head image h = omega (arith, capacity-least (length image) (image-holds image h .within))
 
 pub rate-as : (image : Bytes) {end : ℕ} (h : Reals image end) (node : ℕ) (name : Bytes) (r : Rate)
     → rated r ≡ throttle node name (map entryOf (recordsIn (take (end - headSize) (drop headSize image)))) → ratedAs (rated r) ≡ ratedAs (throttle node name (contentsOf image .real))
-rate-as image {end} h node name r e = ap ratedAs (e ∙ ap (throttle node name) (lent-held image end h))
+rate-as image {end} h node name r e = ap ratedAs (e ∙ ap (throttle node name) (lent-held image h))
 
 -- 3. The answers
 

@@ -1,35 +1,26 @@
 -- One entry put in its place, or taken out.
-use mathlib.Core.Path.{_≡_, refl, sym, ap, ap₂, _∙_, subst}
-use mathlib.Core.Bool.{Bool, true, false, _||_}
-use mathlib.Core.List.{List, [], _∷_, map}
+use mathlib.Core.Path.{_≡_, sym, ap, _∙_, subst}
+use mathlib.Core.Bool.{Bool, true, false}
+use mathlib.Core.List.{[], _∷_, map}
 use Prim.Native.Nat.{ℕ, _+_, _≤_}
 use native.Mathlib.Omega.{arith}
-use lib.Dec.{eqb}
-use lib.ListN.{length, take}
+use lib.ListN.{length}
 use Rattle.model.specs.Number.{Bytes}
 use Rattle.model.specs.Order.{Key}
-use Rattle.model.specs.Kind.{kindNumber}
 use Rattle.model.specs.Record.{Rec}
-use Rattle.model.specs.Shape.{stored}
 use Rattle.model.specs.Map.{put, remove}
-use Rattle.model.specs.Contents.{plain, kept, recordKey, storable}
+use Rattle.model.specs.Contents.{kept, recordKey, storable}
 use Rattle.model.specs.Image.{entryOf}
 use Rattle.model.specs.Move.{Move, putM, dropM, setOrDrop, onReal, onEmpties}
-use Rattle.laws_records.specs.Faults.{fault-length}
-use Rattle.laws_records.specs.Records.{length-record}
-use Rattle.keys.specs.Keys.{keyIn, Keyed}
+use Rattle.keys.specs.Keys.{keyIn}
 use Rattle.entries.specs.Entries.{IsRecord, recordIn}
 use Rattle.entries.proofs.Changes.{record-in, key-in}
 use Rattle.stored.specs.Stored.{storableRecord}
 use Rattle.work.specs.Work.{realsIn, groupsIn, Good, mostRecord, Made}
 use Rattle.work.specs.declared.Room.{Room}
 use Rattle.work.proofs.Entries.{entries-put, entries-remove, entry-plain}
-use Rattle.work.proofs.Made.{made-one}
+use Rattle.work.proofs.Made.{record-size, made-one}
 use Rattle.moves.specs.Moves.{IsPlain}
-
-pub record-size : (s : Bytes) → IsRecord s → length s ≤ mostRecord
-record-size s i =
-    omega (arith, ap length (i .bytes), length-record (i .value), fault-length stored (i .value .kind) (i .value .run) (i .passes))
 
 pub plain-kept : (r : Rec) → IsPlain r → kept (entryOf r) ≡ r
 unfolding kept

@@ -24,8 +24,9 @@ use Rattle.laws_records.specs.Stored.{fault-topic}
 use Rattle.laws_image.specs.Entries.{entry-kept}
 use Rattle.keys.specs.Keys.{runIn}
 use Rattle.entries.specs.Entries.{IsRecord, recordIn}
-use Rattle.entries.proofs.Records.{record-run}
-use Rattle.entries.proofs.Changes.{record-in, is-keyed}
+use Rattle.entries.proofs.Changes.{record-in}
+use Rattle.stored.proofs.Records.{run-in, kind-in}
+use Rattle.work.proofs.Entries.{topic-entry}
 use Rattle.patches.specs.Patches.{isTopicWith, CountFits, StandsFor, patched}
 use Rattle.patches.proofs.Topics.{length-topic, numbers-fit, flag-cleared, count-changed, factor-changed, count-read}
 
@@ -53,10 +54,6 @@ IsTopic r = eqb (kindNumber (r .kind)) 1 ≡ true
 chosen-topic : (tag : ℕ) (v : Bytes) (r : Rec) → isTopicWith tag v r ≡ true → IsTopic r
 unfolding isTopicWith
 chosen-topic tag v r h = and-left (eqb (kindNumber (r .kind)) 1) (sameBytes (value tag (r .run)) v) h
-
-topic-entry : (r : Rec) → IsTopic r → entryOf r ≡ topic (nameOf r) (idOf r) (countIn r) (factorIn r) (flagIn r)
-unfolding entryOf
-topic-entry r h = rw h
 
 abbrev unnamed : Rec → Entry
 unnamed r = topic (nameOf r) (idOf r) (countIn r) (factorIn r) false
@@ -170,28 +167,15 @@ module _ (r : Rec) (s : Sound r) where
 
 -- 3. By the bytes
 
-first-byte : (r : Rec) → getD (recordBytes r) 0 0 ≡ kindNumber (r .kind)
-unfolding recordBytes
-first-byte r = refl
-
 module _ {s : Bytes} (i : IsRecord s) where
-  pub headed : 3 ≤ length s
-  headed = is-keyed s i .headed
-
-  run-in : runIn s ≡ recordIn s .run
-  run-in = ap runIn (i .bytes) ∙ record-run (i .value) (i .passes) ∙ ap (λ r. r .run) (sym (record-in s i))
-
-  kind-in : getD s 0 0 ≡ kindNumber (recordIn s .kind)
-  kind-in = ap (λ b. getD b 0 0) (i .bytes) ∙ first-byte (i .value) ∙ ap (λ r. kindNumber (r .kind)) (sym (record-in s i))
-
   pub other-kind : (tag : ℕ) (v : Bytes) → (getD s 0 0 ≡ 1 → ⊥) → false ≡ isTopicWith tag v (recordIn s)
   unfolding isTopicWith
-  other-kind tag v h = rw (ne-eqb (kindNumber (recordIn s .kind)) 1 (λ e. h (kind-in ∙ e)))
+  other-kind tag v h = rw (ne-eqb (kindNumber (recordIn s .kind)) 1 (λ e. h (kind-in s i ∙ e)))
 
   pub field-says : (tag : ℕ) (v : Bytes) {x : Bytes} {b : Bool} → getD s 0 0 ≡ 1 → x ≡ value tag (runIn s) → b ≡ sameBytes x v → b ≡ isTopicWith tag v (recordIn s)
   unfolding isTopicWith
   field-says tag v h here said =
-      rw (eq-eqb (kindNumber (recordIn s .kind)) 1 (sym kind-in ∙ h)) (said ∙ ap (λ y. sameBytes y v) (here ∙ ap (value tag) run-in))
+      rw (eq-eqb (kindNumber (recordIn s .kind)) 1 (sym (kind-in s i) ∙ h)) (said ∙ ap (λ y. sameBytes y v) (here ∙ ap (value tag) (run-in s i)))
 
 module _ {s : Bytes} (h : StandsFor s) where
   abbrev r : Rec

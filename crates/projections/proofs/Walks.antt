@@ -6,14 +6,15 @@ use native.Mathlib.Omega.{arith}
 use lib.ListN.{length, take, drop, length-append, length-drop}
 use lib.Seq.{slice, length-slice}
 use Rattle.model.specs.Number.{Bytes}
-use Rattle.model.specs.Run.{done, torn, item, runOf, bytesOf, dropField}
+use Rattle.model.specs.Run.{done, torn, item, bytesOf, dropField}
 use Rattle.laws_records.specs.Runs.{Whole, length-run}
 use Rattle.fields.specs.Fields.{fieldsFrom}
 use Rattle.fields.specs.declared.Cursor.{Cursor}
 use Rattle.fields.proofs.Took.{Moved}
 use Rattle.keys.specs.Keys.{runIn}
 use Rattle.records.specs.Answers.{written}
-use Rattle.keys.proofs.Found.{lent-slice, slice-rest}
+use Rattle.keys.proofs.Found.{lent-slice}
+use Rattle.keys.proofs.Elements.{begins}
 use Rattle.projections.specs.Known.{emptied, known, knownField, knownSize}
 use Rattle.records.proofs.Growing.{Growing, grow-start, part-fits, grow, grown}
 use Rattle.projections.proofs.Known.{known-item, length-field, known-low}
@@ -24,9 +25,6 @@ pub record Ahead (s : Bytes) (c : Cursor) : Type 0 where
   pub order : c .at ≤ c .to
   pub last : c .to ≡ length s
   pub whole : Whole (fieldsFrom s c)
-
-begins : (s : Bytes) → fieldsFrom s (record { at = 3; to = length s }) ≡ runIn s
-begins s = ap runOf (slice-rest 3 s)
 
 ahead-start : (s : Bytes) → 3 ≤ length s → Whole (runIn s) → Ahead s (record { at = 3; to = length s })
 ahead-start s headed whole = record { order = headed; last = refl; whole = subst Whole (sym (begins s)) whole }

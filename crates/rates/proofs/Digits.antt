@@ -1,24 +1,20 @@
 -- Decimal digits: what a number and the digits after it spell.
 use mathlib.Core.Path.{_≡_, refl, sym, ap, _∙_}
 use mathlib.Core.Bool.{Bool, true, false, cond, _&&_}
-use mathlib.Core.List.{List, [], _∷_}
+use mathlib.Core.List.{[], _∷_}
 use mathlib.Core.Option.{Option, none, some}
 use Prim.Native.Nat.{ℕ, _+_, _*_, _-_, _≤_, _<_}
-use native.Mathlib.Numerals.{add-one}
 use native.Mathlib.Omega.{arith}
 use borrow.Author.Tests.{le-leb, lt-leb}
 use lib.Dec.{leb}
 use lib.ListN.{length, drop, getD, drop-of-length-le}
-use lib.Seq.{drop-cons}
 use Rattle.model.specs.Number.{Bytes, half}
 use Rattle.model.specs.Lookup.{digits, magnitude}
 use Rattle.laws.specs.Choice.{impossible}
+use Rattle.wire.proofs.Rest.{drop-step}
 use Rattle.rates.specs.Rates.{Below}
 use Rattle.rates.specs.declared.Rate.{Rate}
 use Rattle.rates.specs.declared.Rate.the-variants.{Is, None}
-
-step-at : (s : Bytes) (i : ℕ) → i < length s → drop i s ≡ getD s i 0 ∷ drop (i + 1) s
-step-at s i h = rw add-one (drop-cons s i 0 h)
 
 no-some : {m : ℕ} → _≡_ {A = Option ℕ} none (some m) → {A : Type 0} → A
 no-some e = impossible cc
@@ -55,7 +51,7 @@ module _ {s : Bytes} {from i n : ℕ} (h : Spelt s from i n) where
   module _ (more : i < length s) where
     split : digits 0 (drop from s) ≡ cond (leb 0x30 (getD s i 0) && leb (getD s i 0) 0x39) (digits (n * 10 + (getD s i 0 - 0x30)) (drop (i + 1) s)) none
     unfolding digits
-    split = h .same ∙ ap (digits n) (step-at s i more)
+    split = h .same ∙ ap (digits n) (drop-step s i more)
 
     pub low-digit : getD s i 0 < 0x30 → Below (digits 0 (drop from s)) None
     low-digit low m e = no-some (sym (split ∙ rw (lt-leb 0x30 (getD s i 0) low) refl) ∙ e)
@@ -81,4 +77,4 @@ no-digit s from past m e = no-some (sym (ap magnitude (drop-of-length-le s past)
 
 pub some-digit : (s : Bytes) (from : ℕ) → from < length s → (r : Rate) → Below (digits 0 (drop from s)) r → Below (magnitude (drop from s)) r
 unfolding magnitude
-some-digit s from more r b = rw (step-at s from more) (rw (step-at s from more) at b)
+some-digit s from more r b = rw (drop-step s from more) (rw (drop-step s from more) at b)

@@ -26,6 +26,10 @@ real-held : (b : Bytes) → contentsOf b .real ≡ map entryOf (realOf (records 
 unfolding contentsOf
 real-held b = refl
 
+pub empties-held : (b : Bytes) → contentsOf b .empties ≡ emptiesOf (records (itemsIn b))
+unfolding contentsOf
+empties-held b = refl
+
 real-ascends : (b : Bytes) → isImage b ≡ true → ascending key (map entryOf (realOf (records (itemsIn b)))) ≡ true
 unfolding sound contentsOf
 real-ascends b is =

@@ -12,8 +12,7 @@ use Rattle.model.specs.Choice.{every}
 use Rattle.model.specs.Number.{Bytes, AreBytes, span, half, isNegative}
 use Rattle.model.specs.Map.{ascending}
 use Rattle.model.specs.Contents.{recordKey}
-use Rattle.model.specs.Items.{records}
-use Rattle.model.specs.Image.{headSize, usedIn, fixedIn, itemsIn, entryOf, emptiesOf, contentsOf, isImage}
+use Rattle.model.specs.Image.{headSize, usedIn, fixedIn, entryOf, emptiesOf, contentsOf, isImage}
 use Rattle.model.specs.Snapshot.{levels, restoredEpoch, restored}
 use Rattle.laws.specs.Lists.{every-map}
 use Rattle.laws_image.specs.Exact.{image-fits}
@@ -23,15 +22,11 @@ use Rattle.entries.specs.Entries.{recordsIn, Entries}
 use Rattle.entries.proofs.Seeks.{no-records}
 use Rattle.stored.specs.Stored.{Parted}
 use Rattle.reals.specs.Reals.{Reals}
-use Rattle.reals.proofs.Ends.{used-low, used-high, reals-end}
+use Rattle.reals.proofs.Ends.{empties-held, used-low, used-high, reals-end}
 use Rattle.settled.specs.Settled.{settledEntry, settledRecord, isNoLevel}
 use Rattle.settled.proofs.Levels.{no-levels}
 use Rattle.rebuild.specs.Rebuild.{Steady}
 use Rattle.rebuild.proofs.Steady.{still, epoch-raised, epoch-unraised}
-
-empties-held : (b : Bytes) → contentsOf b .empties ≡ emptiesOf (records (itemsIn b))
-unfolding contentsOf
-empties-held b = refl
 
 fixed-held : (b : Bytes) → contentsOf b .fixed ≡ fixedIn b
 unfolding contentsOf

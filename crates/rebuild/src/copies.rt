@@ -1,12 +1,10 @@
 // The image that some records would be a snapshot of, by copying. Nothing is promised of it but that it stays in its buffer: it is tested afterwards.
 use header::HEAD_SIZE;
+use header::NO_EPOCH;
 use header::put_header;
 ghost use Prim.Native.Nat.{_+_, _≤_, _<_};
 ghost use lib.ListN.{length};
 ghost use Rattle.model.specs.Image.{headSize};
-
-// The epoch before any, -1, by its bytes.
-const NO_EPOCH: u64 = 0xffff_ffff_ffff_ffff;
 
 // Where the entries end so far, and the fixed parts so far.
 struct Copied {

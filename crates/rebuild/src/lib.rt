@@ -3,6 +3,7 @@ mod copies;
 
 use copies::copy_image;
 use header::HEAD_SIZE;
+use header::NO_EPOCH;
 use header::epoch_in;
 use header::used_in;
 use records::Answer;
@@ -16,10 +17,8 @@ ghost use lib.ListN.{length};
 ghost use Rattle.model.specs.Image.{headSize, isImage};
 ghost use Rattle.rebuild.specs.Rebuild.{Steady, Rebuilt};
 
-// The first epoch that is negative, and -1, by their bytes.
+// The first epoch that is negative, by its bytes.
 const NEGATIVE: u64 = 0x8000_0000_0000_0000;
-
-const NO_EPOCH: u64 = 0xffff_ffff_ffff_ffff;
 
 // Whether a restore leaves an image as it is: no empty group, settled entries, and an epoch that is not negative, or is -1 where there is no level.
 fn is_steady(image: &[u8]) -> bool

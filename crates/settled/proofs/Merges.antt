@@ -23,18 +23,16 @@ use Rattle.laws.specs.Order.{Lt}
 use Rattle.laws.specs.Lists.{All, all-any, all-imp, all-both}
 use Rattle.laws.specs.Map.{Asc}
 use Rattle.laws_records.specs.Faults.{fault-value}
-use Rattle.laws_records.specs.Kinds.{number-injective}
 use Rattle.laws_image.specs.Entries.{entry-key}
 use Rattle.keys.specs.Keys.{runIn}
-use Rattle.keys.proofs.Found.{lent-slice, slice-rest}
 use Rattle.entries.specs.Entries.{recordsIn}
 use Rattle.entries.specs.declared.Cursor.{Cursor}
 use Rattle.entries.proofs.Seeks.{no-records}
 use Rattle.entries.proofs.Turns.{Stands}
 use Rattle.counts.specs.Counts.{Counted}
 use Rattle.counts.proofs.Tallies.{next-end, list}
-use Rattle.counts.proofs.Topics.{IsTopic, topics-ascend, kind-here, run-here}
-use Rattle.counts.proofs.Merges.{Merged, number-is}
+use Rattle.counts.proofs.Topics.{IsTopic, topic-kind, topics-ascend, kind-here, run-here}
+use Rattle.counts.proofs.Merges.{Merged, rest-lent, number-is}
 use Rattle.settled.specs.Settled.{settledEntry, settledRecord, factorOf, Factored}
 
 -- 1. Records
@@ -59,16 +57,12 @@ module _ (l : List Rec) (r : Rec) where
   unfolding entryOf settledEntry
   topic-settled h = rw (eq-eqb (kindNumber (r .kind)) 1 h, partitions-are (value 1 (r .run)) l) refl
 
-topic-kind : (r : Rec) → IsTopic r → r .kind ≡ Topic
-unfolding kindNumber
-topic-kind r e = number-injective (r .kind) Topic e
-
 -- the widths of a topic's fields
 topic-widths : (r : Rec) → IsTopic r → fault stored (r .kind) (r .run) ≡ 0
     → (length (value 3 (r .run)) ≡ 4) × (length (value 4 (r .run)) ≡ 2) × (length (value 5 (r .run)) ≡ 5)
 unfolding rowsOf shapeOf kindNumber
 topic-widths r e ok =
-    let good : fault stored Topic (r .run) ≡ 0 = rw (topic-kind r e) at ok in
+    let good : fault stored Topic (r .run) ≡ 0 = rw (topic-kind (r .kind) e) at ok in
     (fault-value stored Topic (r .run) good 3 refl refl, fault-value stored Topic (r .run) good 4 refl refl, fault-value stored Topic (r .run) good 5 refl refl)
 
 -- 2. The walks
@@ -87,10 +81,6 @@ aligned-start s m = record { merged = m; same = refl; ahead = all-any (Ahead s 0
 pub aligned-end : {s : Bytes} {at from : ℕ} → Aligned s at from → length s ≤ at → true ≡ every (settledRecord (recordsIn s)) (recordsIn s)
 aligned-end {s} {at} h past =
     ap (every (settledRecord (recordsIn s))) (sym (no-records (drop at s) (drop-of-length-le s past))) ∙ h .same
-
--- the rest as it is lent
-rest-lent : (s : Bytes) (from : ℕ) → from ≤ length s → take (length s - from) (drop from s) ≡ drop from s
-rest-lent s from h = lent-slice s from (length s) h ∙ slice-rest from s
 
 -- a turn: the step from the topics' place found an entry
 module _ {s : Bytes} {at from start end : ℕ} {next : Cursor} (h : Aligned s at from) (t : Stands s at start end next) where

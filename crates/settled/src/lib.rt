@@ -3,6 +3,7 @@
 use counts::beside;
 use entries::Cursor;
 use entries::Step;
+use keys::number_at;
 use keys::value_at;
 use model::Order;
 ghost use mathlib.Core.Path.{_≡_};
@@ -80,15 +81,6 @@ fn tally_of(s: &[u8], name: &[u8], given: u64) -> Tally
             }
         }
     }
-}
-
-// The number that a field spells.
-fn number_at(e: &[u8], tag: usize, width: usize) -> u64
-    requires { ⌜ (3 ≤ length (now e)) × (width ≤ 8) × (length (value tag (runIn (now e))) ≡ width) ⌝ }
-    ensures { λ r. ⌜ r ≡ number (value tag (runIn (now (e .entry)))) ⌝ }
-{
-    let p = value_at(e, tag);
-    wire::get(e, p.start, width)
 }
 
 // Counts the partitions of the topic that a record is of.

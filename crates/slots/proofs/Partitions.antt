@@ -9,7 +9,7 @@ use lib.Seq.{slice, length-take-le}
 use Rattle.model.specs.Choice.{joined}
 use Rattle.model.specs.Number.{Bytes}
 use Rattle.model.specs.Order.{sameBytes}
-use Rattle.model.specs.Run.{Run, value}
+use Rattle.model.specs.Run.{Run, field, value}
 use Rattle.model.specs.Kind.{kindNumber}
 use Rattle.model.specs.Shape.{rowsOf, shapeOf}
 use Rattle.model.specs.Record.{recordBytes}
@@ -28,7 +28,7 @@ use Rattle.slots.proofs.Records.{length-slot}
 -- 1. Slots
 
 pub slots-are : (p : Run) (count : ℕ) (nodes dirs : Bytes) → joined recordBytes (assignments p count nodes dirs) ≡ slotsBytes (value 1 p) (value 2 p) count nodes dirs
-unfolding assignments slotsBytes
+unfolding assignments slotsBytes field
 slots-are p zero nodes dirs = refl
 slots-are p (suc count) nodes dirs =
     let test = sameBytes (take 16 dirs) migrating in

@@ -7,7 +7,7 @@ use native.Mathlib.Omega.{arith}
 use lib.ListN.{length}
 use Rattle.model.specs.Number.{Bytes}
 use Rattle.model.specs.Order.{sameBytes}
-use Rattle.model.specs.Run.{bytesOf, item, done}
+use Rattle.model.specs.Run.{field as fieldOf, bytesOf, item, done}
 use Rattle.model.specs.Kind.{kindNumber}
 use Rattle.model.specs.Record.{recordBytes}
 use Rattle.model.specs.Downgrade.{migrating}
@@ -25,7 +25,7 @@ field tag v = head tag (length v) ++ v
 
 module _ (name number node : Bytes) where
   pub size : length (recordBytes (assigning name number node)) ≡ 31 + length name + length number + length node
-  unfolding bytesOf
+  unfolding bytesOf fieldOf
   size =
       let fourth = item 4 migrating done in
       let third = item 3 node fourth in
@@ -38,7 +38,7 @@ module _ (name number node : Bytes) where
 
     module _ {a : Bytes} (ea : a ≡ written out at (head 14 (at + 3 + 3 + length name + 3 + length number + 3 + length node + 19 - (at + 3)))) where
       first : Growing out a at (at + 3) (recordBytes (assigning name number node)) (field 1 name ++ (field 2 number ++ (field 3 node ++ field 4 migrating)))
-      unfolding recordBytes bytesOf kindNumber
+      unfolding recordBytes bytesOf kindNumber fieldOf
       first =
           let body = field 1 name ++ (field 2 number ++ (field 3 node ++ field 4 migrating)) in
           let long : at + 3 + 3 + length name + 3 + length number + 3 + length node + 19 - (at + 3) ≡ length body = omega (arith, size) in

@@ -7,14 +7,13 @@ use Rattle.model.specs.Choice.{joined}
 use Rattle.model.specs.Number.{Bytes}
 use Rattle.model.specs.Order.{sameBytes}
 use Rattle.model.specs.Run.{Run, done, item}
-use Rattle.model.specs.Record.{Rec, rec, recordBytes}
+use Rattle.model.specs.Record.{Rec, recordBytes}
 use Rattle.model.specs.Move.{replicas, directories, nodeWidth, idWidth}
-use Rattle.model.specs.Downgrade.{migrating, assignments, slots}
-use Rattle.model.specs.declared.Kind.the-variants.{PartitionDirAssignment}
+use Rattle.model.specs.Downgrade.{migrating, assignment, assignments, slots}
 
 -- a partition's replica, assigned to `MIGRATING`
 abbrev pub assigning : Bytes → Bytes → Bytes → Rec
-assigning name number node = rec PartitionDirAssignment (item 1 name (item 2 number (item 3 node (item 4 migrating done))))
+assigning name number node = assignment (item 1 name (item 2 number done)) node
 
 -- a slot's record, none where its directory is `MIGRATING`; those of the first slots
 abbrev pub slotBytes : Bytes → Bytes → Bytes → Bytes → Bytes

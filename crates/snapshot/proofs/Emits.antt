@@ -1,38 +1,27 @@
 -- What Snapshot writes: the records of the entries, of the epoch and of the kraft version, one after the other.
 use mathlib.Core.Path.{_≡_, refl, sym, ap, ap₂, _∙_}
 use mathlib.Core.Bool.{Bool, true, false, not}
-use mathlib.Core.List.{List, [], _∷_, _++_, map, append-nil}
+use mathlib.Core.List.{[], _∷_, _++_, map, append-nil}
 use Prim.Native.Nat.{ℕ, _+_, _-_, _≤_, _<_}
 use native.Mathlib.Omega.{arith}
 use borrow.Author.Tests.{le-leb, lt-leb, not-true, not-false}
 use lib.ListN.{length, take, drop, length-append}
-use lib.Seq.{slice}
 use Rattle.model.specs.Choice.{joined}
 use Rattle.model.specs.Number.{Bytes}
-use Rattle.model.specs.Record.{Rec, recordBytes}
-use Rattle.model.specs.Contents.{Entry, shown, Fixed}
+use Rattle.model.specs.Record.{recordBytes}
+use Rattle.model.specs.Contents.{shown}
 use Rattle.model.specs.Image.{headSize, entryOf, fixedIn, contentsOf, isImage}
 use Rattle.model.specs.Reply.{Reply, accepted, refused, emitBytes}
 use Rattle.model.specs.Snapshot.{epochRecords, kraftRecords, trail, snapshot, emit, snapshotOf}
 use Rattle.laws.specs.Lists.{joined-append, joined-map}
 use Rattle.records.specs.Answers.{written}
-use Rattle.keys.proofs.Found.{lent-slice}
-use Rattle.entries.specs.Entries.{recordsIn, Entries}
-use Rattle.found.specs.Found.{AllKept}
+use Rattle.entries.specs.Entries.{recordsIn}
 use Rattle.reals.specs.Reals.{Reals}
+use Rattle.reals.proofs.Lent.{lent-held}
 use Rattle.snapshot.specs.Shown.{shownIn, epochBytes, kraftBytes}
 use Rattle.records.proofs.Growing.{Growing, grow-start, part-fits, rest-fits, grow, grown}
 
 module _ (image : Bytes) {end : ℕ} (r : Reals image end) where
-  lent-part : take (end - headSize) (drop headSize image) ≡ slice headSize end image
-  lent-part = lent-slice image headSize end (r .low)
-
-  pub lent-entries : Entries (take (end - headSize) (drop headSize image))
-  lent-entries = rw lent-part (r .entries)
-
-  pub lent-kept : AllKept (recordsIn (take (end - headSize) (drop headSize image)))
-  lent-kept = rw lent-part (r .keeps)
-
   module _ {epoch kraft : ℕ} (ee : epoch ≡ fixedIn image .epoch) (ek : kraft ≡ fixedIn image .kraft) where
     -- the bytes of all records
     all-bytes : joined recordBytes (snapshot (contentsOf image)) ≡ shownIn (take (end - headSize) (drop headSize image)) ++ (epochBytes epoch ++ kraftBytes kraft)
@@ -40,7 +29,7 @@ module _ (image : Bytes) {end : ℕ} (r : Reals image end) where
     all-bytes =
         let body : joined recordBytes (map shown (contentsOf image .real)) ≡ shownIn (take (end - headSize) (drop headSize image)) =
         joined-map recordBytes shown (contentsOf image .real)
-        ∙ ap (joined (λ e. recordBytes (shown e))) (r .held ∙ ap (λ s. map entryOf (recordsIn s)) (sym lent-part))
+        ∙ ap (joined (λ e. recordBytes (shown e))) (sym (lent-held image r))
         ∙ joined-map (λ e. recordBytes (shown e)) entryOf (recordsIn (take (end - headSize) (drop headSize image))) in
         joined-append recordBytes (map shown (contentsOf image .real)) (trail (fixedIn image))
         ∙ ap₂ (λ x y. x ++ y) body (joined-append recordBytes (epochRecords (fixedIn image .epoch)) (kraftRecords (fixedIn image .kraft)) ∙ rw (ee, ek) refl)

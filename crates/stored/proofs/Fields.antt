@@ -1,4 +1,4 @@
--- One field of an entry: whether it is there, whether its value is empty, and the number that it spells.
+-- One field of an entry: whether it is there, and whether its value is empty.
 use mathlib.Core.Path.{_≡_, sym, ap, _∙_}
 use mathlib.Core.List.{[], _∷_}
 use mathlib.Core.Bool.{true, false}
@@ -9,7 +9,7 @@ use lib.Dec.{eqb}
 use lib.ListN.{length}
 use lib.Seq.{slice}
 use Rattle.model.specs.Choice.{isSome, isEmpty}
-use Rattle.model.specs.Number.{Bytes, number}
+use Rattle.model.specs.Number.{Bytes}
 use Rattle.model.specs.Run.{field, value}
 use Rattle.fields.specs.Fields.{fieldsFrom, held}
 use Rattle.fields.specs.declared.Found.{Found}
@@ -44,10 +44,3 @@ module _ (e : Bytes) (i : IsRecord e) (tag : ℕ) where
         go : (v : Bytes) → end ≡ start + length v → eqb start end ≡ isEmpty v
         go [] q = eq-eqb start end (omega arith)
         go (x ∷ v) q = ne-eqb start end (λ p. omega arith)
-
-    module _ (width : ℕ) (wide : length (value tag (recordIn e .run)) ≡ width) where
-      pub reaches : start + width ≤ length e
-      reaches = omega (arith, ends, h .2)
-
-      pub number-is : (n : ℕ) → n ≡ number (slice start (start + width) e) → n ≡ number (value tag (recordIn e .run))
-      number-is n q = let same : start + width ≡ end = omega (arith, ends) in q ∙ ap number (ap (λ x. slice start x e) same ∙ part-is)

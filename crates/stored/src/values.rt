@@ -2,6 +2,7 @@
 use fields::Cursor;
 use fields::Found;
 use fields::field;
+use keys::number_at;
 use keys::value_at;
 ghost use mathlib.Core.Path.{_≡_};
 ghost use Prim.Native.Nat.{_≤_};
@@ -37,7 +38,5 @@ pub fn number_of(e: &[u8], tag: usize, width: usize) -> u64
     requires { ⌜ IsRecord (now e) × (width ≤ 8) × (length (value tag (recordIn (now e) .run)) ≡ width) ⌝ }
     ensures { λ r. ⌜ r ≡ number (value tag (recordIn (now (e .entry)) .run)) ⌝ }
 {
-    let p = value_at(e, tag);
-    let start = p.start;
-    wire::get(e, start, width)
+    number_at(e, tag, width)
 }

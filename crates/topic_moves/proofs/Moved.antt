@@ -1,32 +1,31 @@
 -- A topic's, a partition's and a deletion's move, by what the work array holds after each step.
-use mathlib.Core.Path.{_≡_, refl, sym, ap, ap₂, _∙_, subst}
-use mathlib.Core.Bool.{Bool, true, false}
-use mathlib.Core.List.{List, [], _∷_, map}
+use mathlib.Core.Path.{_≡_, refl, sym, ap, _∙_, subst}
+use mathlib.Core.Bool.{true}
+use mathlib.Core.List.{[], _∷_, map}
 use mathlib.Core.Option.{Option, none, some}
 use Prim.Native.Nat.{ℕ, _+_, _/_, _-_, _≤_, _<_}
 use native.Mathlib.Omega.{arith}
 use borrow.Author.Tests.{lt-ltb}
-use lib.Dec.{eqb, lit<}
+use lib.Dec.{lit<}
 use lib.ListN.{length, take, drop}
 use lib.Seq.{slice, length-slice}
 use Rattle.model.specs.Choice.{isSome}
 use Rattle.model.specs.Number.{Bytes, AreBytes, number, bytes, span}
-use Rattle.model.specs.Order.{Key}
-use Rattle.model.specs.Run.{Run, done, item, field, value, setField, bytesOf}
+use Rattle.model.specs.Run.{done, item, field, value, setField}
 use Rattle.model.specs.Kind.{kindNumber}
 use Rattle.model.specs.Shape.{rowsOf, shapeOf, logged, stored, fault}
 use Rattle.model.specs.Record.{Rec, rec, recordBytes}
 use Rattle.model.specs.Key.{keyOf, topicKey}
 use Rattle.model.specs.Map.{put, get, keep}
-use Rattle.model.specs.Contents.{Entry, topic, part, plain, topicRun, flagBytes, kept, key, recordKey}
+use Rattle.model.specs.Contents.{Entry, topic, part, plain, flagBytes, kept, key, recordKey}
 use Rattle.model.specs.Image.{entryOf}
-use Rattle.model.specs.Move.{unname, unnameOld, countOf, tell, isNew, partitionTopic, replicas, nodeCount, apartFrom, plan}
+use Rattle.model.specs.Move.{unname, unnameOld, countOf, tell, isNew, replicas, nodeCount, apartFrom, plan}
 use Rattle.model.specs.Move.{topicM, partM, deleteM, onReal, onEmpties}
 use Rattle.model.specs.declared.Kind.the-variants.{Topic, Partition}
 use Rattle.laws.specs.Numbers.{length-bytes, bytes-number, drop-are-bytes}
-use Rattle.laws_records.specs.Runs.{Whole, Short, fields-run}
-use Rattle.laws_records.specs.Fields.{set-whole, value-are-bytes}
-use Rattle.laws_records.specs.Faults.{fault-value, fault-length, fault-whole, fault-short}
+use Rattle.laws_records.specs.Runs.{fields-run}
+use Rattle.laws_records.specs.Fields.{value-are-bytes}
+use Rattle.laws_records.specs.Faults.{fault-value, fault-length}
 use Rattle.laws_records.specs.Records.{length-record}
 use Rattle.laws_image.specs.Required.{required-run}
 use Rattle.laws.specs.Choice.{impossible}
@@ -37,26 +36,21 @@ use Rattle.laws_image.specs.Entries.{entry-kept}
 use Rattle.laws_apply.specs.Entries.{AreNameAndId, topic-readable, replicas-few}
 use Rattle.laws_apply.specs.Plans.{plan-lawful}
 use Rattle.keys.specs.Keys.{keyIn, kindIn, runIn}
-use Rattle.keys.proofs.Found.{lent-slice}
 use Rattle.entries.specs.Entries.{Entries, IsRecord, recordIn, Placed}
 use Rattle.entries.proofs.Changes.{record-in, key-in}
-use Rattle.stored.proofs.Records.{headed, run-in, kind-in, value-is}
-use Rattle.drafts.specs.Drafts.{spells, IsDraft}
-use Rattle.drafts.proofs.Drafts.{spells-record, held-draft, set-held, set-short}
+use Rattle.stored.proofs.Records.{run-in}
+use Rattle.drafts.specs.Drafts.{spells, IsDraft, Drafted}
+use Rattle.drafts.proofs.Drafts.{held-draft, set-held, set-drafted, passing-drafted}
 use Rattle.judge.specs.Judge.{IsLogged, loggedIn, entriesIn}
-use Rattle.judge.proofs.Logged.{logged-in, passes, kind-is, kind-in as judge-kind-in, run-in as judge-run-in}
+use Rattle.judge.proofs.Logged.{logged-in, passes, kind-is, run-in as judge-run-in}
 use Rattle.judge.proofs.Held.{none-held, is-held}
 use Rattle.work.specs.Work.{realsIn, groupsIn, Good, heldIn, mostRecord, Made}
 use Rattle.work.specs.declared.Room.{Room}
-use Rattle.work.proofs.Entries.{entries-put, entries-keep}
+use Rattle.work.proofs.Entries.{entries-put, entries-keep, part-entry}
 use Rattle.work.proofs.Made.{made-one}
 use Rattle.work.proofs.Proper.{held-proper}
 
 -- 1. A partition
-
-part-entry : (r : Rec) → r .kind ≡ Partition → entryOf r ≡ part (r .run)
-unfolding entryOf kindNumber
-part-entry r h = rw h
 
 pub part-kept : (r : Rec) → r .kind ≡ Partition → kept (entryOf r) ≡ r
 unfolding kept
@@ -135,41 +129,26 @@ module _ (s : Bytes) (i : IsLogged s) (is : kindIn s ≡ 1) where
   pub logged-size : length s ≤ mostRecord
   logged-size = omega (arith, ap length (i .bytes), length-record (i .value), fault-length logged (i .value .kind) (i .value .run) (i .passes))
 
-  topic-spelt : s ≡ spells 1 (runIn s)
-  topic-spelt =
-      i .bytes
-      ∙ sym (spells-record (i .value))
-      ∙ ap (λ r. spells (kindNumber (r .kind)) (r .run)) (sym (logged-in s i))
-      ∙ ap₂ spells (sym (judge-kind-in s i) ∙ is) (sym (judge-run-in s i))
-
-  whole : Whole (runIn s)
-  whole = fault-whole logged Topic (runIn s) topic-passes
-
-  short : Short (runIn s)
-  short = fault-short logged Topic (runIn s) topic-passes
+  topic-bytes : s ≡ recordBytes (rec Topic (runIn s))
+  topic-bytes = i .bytes ∙ ap recordBytes (sym (logged-in s i) ∙ λ j. rec (topic-kind j) (sym (judge-run-in s i) j))
 
   -- the record in a buffer
   module _ (b : Bytes) (n : ℕ) (eb : take n b ≡ s) where
+    copied : Drafted b n 1 (runIn s)
+    unfolding kindNumber
+    copied = passing-drafted logged Topic (runIn s) topic-passes (eb ∙ topic-bytes)
+
     pub copied-draft : IsDraft (take n b)
-    copied-draft = held-draft b n 1 (runIn s) (eb ∙ topic-spelt) whole short
+    copied-draft = held-draft copied
 
     -- with a count
     module _ (count : ℕ) (v : Bytes) (ev : v ≡ bytes 4 count) (d : Bytes) (m : ℕ)
         (ed : take m d ≡ spells (kindIn b) (setField 3 v (runIn (take n b)))) where
-      width : length v ≡ 4
-      width = ap length ev ∙ length-bytes 4 count
-
-      with-count : take m d ≡ spells 1 (setField 3 v (runIn s))
-      with-count = set-held b n 1 (runIn s) (eb ∙ topic-spelt) whole short 3 v ed
-
-      whole-count : Whole (setField 3 v (runIn s))
-      whole-count = set-whole 3 v (runIn s) whole
-
-      short-count : Short (setField 3 v (runIn s))
-      short-count = set-short 3 v (runIn s) (omega (arith, width)) short
+      with-count : Drafted d m 1 (setField 3 (bytes 4 count) (runIn s))
+      with-count = set-drafted copied 3 ev (omega (arith, length-bytes 4 count)) ed
 
       pub counted-draft : IsDraft (take m d)
-      counted-draft = held-draft d m 1 (setField 3 v (runIn s)) with-count whole-count short-count
+      counted-draft = held-draft with-count
 
       -- and with the flag
       pub topic-built : AreBytes s → {t : Bytes} → t ≡ spells (kindIn d) (setField 5 (flagBytes true) (runIn (take m d)))
@@ -182,9 +161,9 @@ module _ (s : Bytes) (i : IsLogged s) (is : kindIn s ≡ 1) where
           sym (bytes-number (value 4 (runIn s)) (value-are-bytes 4 (runIn s) fields)) ∙ ap (λ k. bytes k (number (value 4 (runIn s)))) two in
           let all : runIn s ≡ item 1 (value 1 (runIn s)) (item 2 (value 2 (runIn s)) (item 3 (value 3 (runIn s)) (item 4 (value 4 (runIn s)) done))) =
           required-run logged Topic (runIn s) topic-passes refl in
-          set-held d m 1 (setField 3 v (runIn s)) with-count whole-count short-count 5 (flagBytes true) e
-          ∙ ap (λ r. spells 1 (setField 5 (flagBytes true) (setField 3 v r))) all
-          ∙ ap₂ (λ x y. spells 1 (item 1 (value 1 (runIn s)) (item 2 (value 2 (runIn s)) (item 3 x (item 4 y (item 5 (flagBytes true) done)))))) ev factor
+          set-held with-count 5 (flagBytes true) e
+          ∙ ap (λ r. spells 1 (setField 5 (flagBytes true) (setField 3 (bytes 4 count) r))) all
+          ∙ ap (λ y. spells 1 (item 1 (value 1 (runIn s)) (item 2 (value 2 (runIn s)) (item 3 (bytes 4 count) (item 4 y (item 5 (flagBytes true) done)))))) factor
 
 -- a stored count fits its field
 pub count-fits : (w : Bytes) (room : Room) → AreBytes w → Good w room → (name : Bytes) → {n : ℕ} → n ≡ countOf (get key (topicKey name) (heldIn w room)) → n < span 4

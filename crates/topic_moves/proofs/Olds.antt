@@ -1,6 +1,6 @@
 -- The stored topic of a name, found by its place, and the entries without its id's name.
-use mathlib.Core.Path.{_≡_, refl, sym, ap, _∙_, subst}
-use mathlib.Core.Bool.{Bool, true, false, cond}
+use mathlib.Core.Path.{_≡_, refl, sym, ap, _∙_}
+use mathlib.Core.Bool.{true, false}
 use mathlib.Core.List.{List, [], _++_, map, append-nil}
 use mathlib.Core.Option.{Option, none, some}
 use Prim.Native.Nat.{ℕ, _+_, _-_, _≤_, _<_}
@@ -9,20 +9,17 @@ use lib.Dec.{eqb}
 use lib.ListN.{length, take, drop}
 use lib.Seq.{slice, drop-length}
 use Rattle.model.specs.Number.{Bytes, AreBytes, number}
-use Rattle.model.specs.Order.{Key}
 use Rattle.model.specs.Run.{value}
 use Rattle.model.specs.Kind.{kindOf, kinds, kindNumber}
-use Rattle.model.specs.Record.{Rec}
 use Rattle.model.specs.Shape.{rowsOf, shapeOf}
 use Rattle.model.specs.Key.{rank, keyOf, keyRank, topicKey}
 use Rattle.model.specs.Map.{get}
 use Rattle.model.specs.Contents.{Entry, topic, part, plain, key}
-use Rattle.model.specs.Image.{entryOf}
 use Rattle.model.specs.Move.{unname, unnameOld, countOf}
 use Rattle.model.specs.declared.Kind.the-variants.{Topic}
 use Rattle.laws.specs.Choice.{impossible}
 use Rattle.laws.specs.Lists.{map-same, all-any}
-use Rattle.keys.specs.Keys.{kindIn, runIn}
+use Rattle.keys.specs.Keys.{runIn}
 use Rattle.keys.proofs.Found.{lent-slice}
 use Rattle.entries.specs.Entries.{Entries, Placed, IsRecord, recordIn}
 use Rattle.stored.proofs.Records.{headed, run-in, kind-in, value-is}
@@ -32,15 +29,11 @@ use Rattle.judge.proofs.Queries.{topic-key}
 use Rattle.judge.proofs.Held.{Held, held, none-held}
 use Rattle.work.specs.Work.{groupsIn, Good, heldIn}
 use Rattle.work.specs.declared.Room.{Room}
+use Rattle.work.proofs.Entries.{topic-entry}
 use Rattle.topic_moves.specs.Old.{OldIs}
 use Rattle.topic_moves.specs.declared.old.Old.{Old}
 
 -- 1. The topic at a place
-
-topic-entry : (r : Rec) → eqb (kindNumber (r .kind)) 1 ≡ true
-    → entryOf r ≡ topic (value 1 (r .run)) (value 2 (r .run)) (number (value 3 (r .run))) (number (value 4 (r .run))) (eqb (number (value 5 (r .run))) 1)
-unfolding entryOf
-topic-entry r h = rw h
 
 module _ (s name : Bytes) {at end : ℕ} (p : Placed s (queryKey 1 name []) at end) where
   same-topic : get key (queryKey 1 name []) (entriesIn s) ≡ get key (topicKey name) (entriesIn s)

@@ -6,15 +6,13 @@ use lib.ListN.{length, take, drop}
 use lib.Seq.{slice}
 use Rattle.model.specs.Number.{Bytes}
 use Rattle.model.specs.Run.{Run, done, runOf, field, value, setField}
-use Rattle.laws_records.specs.Runs.{Whole, Short}
-use Rattle.laws_records.specs.Fields.{set-whole}
 use Rattle.fields.specs.Fields.{held, Within}
 use Rattle.fields.specs.declared.Found.{Found}
 use Rattle.fields.specs.declared.Found.the-variants.{Part, Missing}
 use Rattle.keys.specs.Keys.{kindIn, runIn}
 use Rattle.keys.proofs.Found.{lent-slice, value-part, value-missing, within-part}
-use Rattle.drafts.specs.Drafts.{spells, IsDraft}
-use Rattle.drafts.proofs.Drafts.{held-draft, set-held, set-short}
+use Rattle.drafts.specs.Drafts.{spells, IsDraft, Drafted}
+use Rattle.drafts.proofs.Drafts.{held-draft, set-drafted}
 use Rattle.updates.specs.Updates.{partitionOf}
 
 -- 1. Parts
@@ -42,35 +40,28 @@ module _ (s : Bytes) (start end : ℕ) (h : Stands s (value 1 (runIn s)) start e
 
 -- 2. Fields that are set
 
--- a buffer whose first bytes spell a record, of a length up to a bound
-pub record Drafted (b : Bytes) (n kind : ℕ) (run : Run) (most : ℕ) : Type 0 where
-  pub spelt : take n b ≡ spells kind run
-  pub whole : Whole run
-  pub short : Short run
+-- a record in a buffer, of a length up to a bound
+pub record Upto (most : ℕ) (b : Bytes) (n kind : ℕ) (run : Run) : Type 0 where
+  pub held : Drafted b n kind run
   pub few : n ≤ most
 
-pub begun : (b : Bytes) (n kind : ℕ) → (n ≡ 3) × (take n b ≡ spells kind done) → Drafted b n kind done 3
-begun b n kind h = record { spelt = h .1; whole = tt; short = tt; few = omega (arith, h .0) }
+pub begun : (b : Bytes) (n kind : ℕ) → (n ≡ 3) × (take n b ≡ spells kind done) → Upto 3 b n kind done
+begun b n kind h = record { held = record { spelt = h .1; whole = tt; short = tt }; few = omega (arith, h .0) }
 
-module _ {b : Bytes} {n kind : ℕ} {run : Run} {most : ℕ} (d : Drafted b n kind run most) {v w : Bytes} (e : w ≡ v) (limit : ℕ) (low : length v ≤ limit) where
+module _ {b : Bytes} {n kind : ℕ} {run : Run} {most : ℕ} (d : Upto most b n kind run) {v w : Bytes} (e : w ≡ v) (limit : ℕ) (low : length v ≤ limit) where
   -- the value is lent as it stands elsewhere
   pub step-asks : limit < 65536 → most + 3 + limit ≤ length b
       → (n + 3 + length w ≤ length b) × (length w < 65536) × IsDraft (take n b)
   step-asks small fits =
       let same : length w ≡ length v = ap length e in
-      (omega (arith, d .few), omega arith, held-draft b n kind run (d .spelt) (d .whole) (d .short))
+      (omega (arith, d .few), omega arith, held-draft (d .held))
 
   pub step-says : limit < 65536 → (tag : ℕ) (c : Bytes) (r : ℕ)
       → (take r c ≡ spells (kindIn b) (setField tag w (runIn (take n b)))) × (r ≤ n + 3 + length w)
-      → Drafted c r kind (setField tag v run) (most + 3 + limit)
+      → Upto (most + 3 + limit) c r kind (setField tag v run)
   step-says small tag c r h =
       let same : length w ≡ length v = ap length e in
-      record {
-        spelt = set-held b n kind run (d .spelt) (d .whole) (d .short) tag w (h .0) ∙ ap (λ x. spells kind (setField tag x run)) e;
-        whole = set-whole tag v run (d .whole);
-        short = set-short tag v run (omega arith) (d .short);
-        few = omega (arith, h .1, d .few);
-      }
+      record { held = set-drafted (d .held) tag e (omega arith) (h .0); few = omega (arith, h .1, d .few) }
 
 -- the same by a value that is copied from its part
 module _ (s v : Bytes) (start end : ℕ) (h : Stands s v start end) (b : Bytes) (n : ℕ) where

@@ -26,7 +26,7 @@ use Rattle.records.specs.Answers.{written, head}
 use Rattle.drafts.specs.Drafts.{spells, draftRoom}
 use Rattle.drafts.proofs.Fronts.{written-front}
 use Rattle.updates.specs.Updates.{IsUpdate, partitionOf, namedOf, partitionRec, updatedElr, updatedRecovery}
-use Rattle.updates.proofs.Drafting.{Stands, lent, Drafted}
+use Rattle.updates.proofs.Drafting.{Stands, lent, Upto}
 
 -- 1. Values
 
@@ -111,25 +111,23 @@ module _ (s : Bytes) (u : IsUpdate s) where
 
   -- 268: three bytes, and 3 + 255 and 3 + 4 for the name and the number
   pub named-is : {b : Bytes} {n kind : ℕ}
-      → Drafted b n kind (setField 2 (value 2 (partitionOf (runIn s))) (setField 1 (value 1 (partitionOf (runIn s))) done)) 268
+      → Upto 268 b n kind (setField 2 (value 2 (partitionOf (runIn s))) (setField 1 (value 1 (partitionOf (runIn s))) done))
       → (take n b ≡ spells kind (namedOf (runIn s))) × (n ≤ 268)
   unfolding setField
-  named-is d = (d .spelt, d .few)
+  named-is d = (d .held .spelt, d .few)
 
-  pub named-draft : (b : Bytes) (n kind : ℕ) → (take n b ≡ spells kind (namedOf (runIn s))) × (n ≤ 268) → Drafted b n kind (namedOf (runIn s)) 268
+  pub named-draft : (b : Bytes) (n kind : ℕ) → (take n b ≡ spells kind (namedOf (runIn s))) × (n ≤ 268) → Upto 268 b n kind (namedOf (runIn s))
   named-draft b n kind h = record {
-    spelt = h .0;
-    whole = tt;
-    short = (omega (arith, name-short), (omega (arith, number-short), tt));
+    held = record { spelt = h .0; whole = tt; short = (omega (arith, name-short), (omega (arith, number-short), tt)) };
     few = h .1;
   }
 
-  pub elr-built : {b : Bytes} {n : ℕ} → Drafted b n 21 (setField 4 (value 3 (runIn s)) (setField 3 (value 2 (runIn s)) (namedOf (runIn s)))) 1298
+  pub elr-built : {b : Bytes} {n : ℕ} → Upto 1298 b n 21 (setField 4 (value 3 (runIn s)) (setField 3 (value 2 (runIn s)) (namedOf (runIn s))))
       → (take n b ≡ recordBytes (updatedElr (runIn s))) × (n ≤ draftRoom)
   unfolding setField recordBytes kindNumber
-  elr-built d = (d .spelt, omega (arith, d .few))
+  elr-built d = (d .held .spelt, omega (arith, d .few))
 
-  pub recovery-built : {b : Bytes} {n : ℕ} → Drafted b n 22 (setField 3 (value 4 (runIn s)) (namedOf (runIn s))) 272
+  pub recovery-built : {b : Bytes} {n : ℕ} → Upto 272 b n 22 (setField 3 (value 4 (runIn s)) (namedOf (runIn s)))
       → (take n b ≡ recordBytes (updatedRecovery (runIn s))) × (n ≤ draftRoom)
   unfolding setField recordBytes kindNumber
-  recovery-built d = (d .spelt, omega (arith, d .few))
+  recovery-built d = (d .held .spelt, omega (arith, d .few))

@@ -1,27 +1,26 @@
 -- Validate, exit by exit.
-use mathlib.Core.Path.{_≡_, refl, sym, ap, ap₂, _∙_}
+use mathlib.Core.Path.{_≡_, sym, ap, ap₂, _∙_}
 use mathlib.Core.Bool.{Bool, true, false, not}
-use mathlib.Core.List.{List, [], _∷_, _++_, map, append-nil}
+use mathlib.Core.List.{List, [], _∷_, map, append-nil}
 use Prim.Native.Nat.{ℕ, _-_, _≤_}
-use native.Mathlib.Omega.{arith}
 use borrow.Author.Tests.{not-true, not-false}
 use lib.ListN.{length, take, drop}
-use lib.Seq.{slice, length-take-le}
+use lib.Seq.{length-take-le}
 use Rattle.model.specs.Number.{Bytes, AreBytes}
 use Rattle.model.specs.Run.{done}
 use Rattle.model.specs.Shape.{logged}
-use Rattle.model.specs.Record.{Rec, rec, recordBytes, Got, bad, got, onGot, read, readOf}
+use Rattle.model.specs.Record.{Rec, rec, Got, bad, got, onGot, read, readOf}
 use Rattle.model.specs.Image.{headSize, entryOf, isImage, contentsOf}
-use Rattle.model.specs.Reply.{Reply, accepted, refused}
+use Rattle.model.specs.Reply.{accepted, refused}
 use Rattle.model.specs.Validate.{judge, validateOf}
 use Rattle.model.specs.declared.Kind.the-variants.{Topic}
 use Rattle.laws.specs.Choice.{impossible}
 use Rattle.laws_records.specs.Records.{record-read, read-later}
 use Rattle.header.specs.Header.{numbered}
-use Rattle.keys.proofs.Found.{lent-slice}
-use Rattle.entries.specs.Entries.{recordsIn, Entries}
+use Rattle.entries.specs.Entries.{recordsIn}
 use Rattle.judge.specs.Judge.{IsLogged, loggedIn}
 use Rattle.reals.specs.Reals.{Reals}
+use Rattle.reals.proofs.Lent.{lent-held}
 
 -- 1. The record
 
@@ -57,22 +56,7 @@ module _ (input : Bytes) (areBytes : AreBytes input) {n : ℕ} (e : accepted (n 
       ap (λ g. onGot g (λ n. rec Topic done) (λ r n. r))
       (ap (read logged) (sym (append-nil (take n input))) ∙ read-later logged input (it .0) n (it .1) [])
 
--- 2. The real entries, as they are lent
-
-module _ (image : Bytes) (end : ℕ) (r : Reals image end) where
-  abbrev lent : Bytes
-  lent = take (end - headSize) (drop headSize image)
-
-  lent-part : lent ≡ slice headSize end image
-  lent-part = lent-slice image headSize end (r .low)
-
-  pub lent-entries : Entries lent
-  lent-entries = rw lent-part (r .entries)
-
-  lent-held : map entryOf (recordsIn lent) ≡ contentsOf image .real
-  lent-held = ap (λ s. map entryOf (recordsIn s)) lent-part ∙ sym (r .held)
-
--- 3. The verdict
+-- 2. The verdict
 
 module _ (image input : Bytes) {is : Bool} (ei : is ≡ isImage image) where
   pub no-image : not is ≡ true → numbered 1 ≡ validateOf image input
@@ -91,5 +75,5 @@ module _ (image input : Bytes) {is : Bool} (ei : is ≡ isImage image) where
         → j ≡ judge (loggedIn (take n input)) (map entryOf (recordsIn (take (end - headSize) (drop headSize image)))) → numbered j ≡ validateOf image input
     unfolding validateOf
     judged areBytes {n} {end} {j} e r q =
-        let same : j ≡ judge (it input areBytes e .0) (contentsOf image .real) = q ∙ ap₂ judge (logged-is input areBytes e) (lent-held image end r) in
+        let same : j ≡ judge (it input areBytes e .0) (contentsOf image .real) = q ∙ ap₂ judge (logged-is input areBytes e) (lent-held image r) in
         rw (image-is, it input areBytes e .1) (ap numbered same)

@@ -1,5 +1,5 @@
 -- The entries of an image at the start of a work array.
-use mathlib.Core.Path.{_≡_, refl, sym, ap, _∙_}
+use mathlib.Core.Path.{_≡_, sym, ap, _∙_}
 use mathlib.Core.Bool.{true}
 use mathlib.Core.List.{map, _++_}
 use Prim.Native.Nat.{ℕ, _+_, _-_, _≤_}
@@ -7,20 +7,15 @@ use native.Mathlib.Omega.{arith}
 use lib.ListN.{length, take, drop, length-append}
 use lib.Seq.{slice, length-slice, take-append-le, take-at}
 use Rattle.model.specs.Number.{Bytes, AreBytes}
-use Rattle.model.specs.Image.{headSize, usedIn, itemsIn, entryOf, emptiesOf, contentsOf, isImage}
-use Rattle.model.specs.Items.{records}
+use Rattle.model.specs.Image.{headSize, usedIn, entryOf, emptiesOf, contentsOf, isImage}
 use Rattle.fields.proofs.Parse.{take-slice}
 use Rattle.keys.proofs.Found.{lent-slice}
 use Rattle.entries.specs.Entries.{recordsIn}
 use Rattle.stored.specs.Stored.{Parted}
 use Rattle.reals.specs.Reals.{Reals}
-use Rattle.reals.proofs.Ends.{used-low, used-high, reals-end}
+use Rattle.reals.proofs.Ends.{empties-held, used-low, used-high, reals-end}
 use Rattle.work.specs.Work.{realsIn, groupsIn, Good}
 use Rattle.work.specs.declared.Room.{Room}
-
-empties-held : (b : Bytes) → contentsOf b .empties ≡ emptiesOf (records (itemsIn b))
-unfolding contentsOf
-empties-held b = refl
 
 module _ (b : Bytes) (areBytes : AreBytes b) (is : isImage b ≡ true) {used : ℕ} (eu : used ≡ usedIn b) where
   -- the entries, as they are lent

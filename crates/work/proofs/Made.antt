@@ -1,14 +1,23 @@
 -- Moves made on a work array compose.
 use mathlib.Core.Path.{_≡_, refl, sym, ap, _∙_}
 use mathlib.Core.List.{List, [], _∷_, _++_}
-use Prim.Native.Nat.{ℕ, _+_, _*_, _≤_}
+use Prim.Native.Nat.{_+_, _*_, _≤_}
 use native.Mathlib.Omega.{arith}
 use lib.ListN.{length, length-append}
 use Rattle.model.specs.Number.{Bytes}
+use Rattle.model.specs.Shape.{stored}
 use Rattle.model.specs.Contents.{Fixed, Contents}
-use Rattle.model.specs.Move.{Move, onReal, onEmpties, onFixed, move, moves}
+use Rattle.model.specs.Move.{Move, onReal, onEmpties, move, moves}
+use Rattle.laws_records.specs.Faults.{fault-length}
+use Rattle.laws_records.specs.Records.{length-record}
+use Rattle.entries.specs.Entries.{IsRecord}
 use Rattle.work.specs.Work.{groupsIn, Good, heldIn, contentsIn, mostRecord, Made}
 use Rattle.work.specs.declared.Room.{Room}
+
+-- what a move can need
+pub record-size : (s : Bytes) → IsRecord s → length s ≤ mostRecord
+record-size s i =
+    omega (arith, ap length (i .bytes), length-record (i .value), fault-length stored (i .value .kind) (i .value .run) (i .passes))
 
 -- no move
 pub made-none : {w : Bytes} {room : Room} → Good w room → Made [] w room w room

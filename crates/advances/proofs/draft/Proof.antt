@@ -3,7 +3,7 @@ use borrow.Author.Needs.{needs}
 use mathlib.Core.Path.{ap, _∙_}
 use native.Mathlib.Omega.{arith}
 use Rattle.model.specs.Number.{bytes}
-use Rattle.moves.proofs.Singles.{record-size}
+use Rattle.work.proofs.Made.{record-size}
 use Rattle.advances.proofs.Stores.{copied-draft, offset-drafted}
 use Rattle.advances.proofs.draft.Statement.{statement}
 use Rattle.advances.proofs.draft.Tie as tie

@@ -3,7 +3,7 @@ use borrow.Author.Needs.{needs}
 use mathlib.Core.Path.{sym}
 use native.Mathlib.Omega.{arith}
 use lib.Seq.{length-take-le}
-use Rattle.moves.proofs.Singles.{record-size}
+use Rattle.work.proofs.Made.{record-size}
 use Rattle.assignments.proofs.Plans.{part-kept, none-stored, partition-there, none-assigned, new-there, assigned-there}
 use Rattle.assignments.proofs.assign.Statement.{statement}
 use Rattle.assignments.proofs.assign.Tie as tie

@@ -68,20 +68,20 @@ count-for-requires c κs =
     let l = left-lent (c .before .before .before .before .before .before .before .before .loop .inv) in
     (headed-here (entry (c .before .before .before .before .before)), l .0, l .1)
 
-sub-count-in : tie.Need-sub-count-in Inv-loop μ-loop
-sub-count-in c = omega (arith, bounds (entry (c .before .before .before .before .before .before)))
+sub-number-at : tie.Need-sub-number-at Inv-loop μ-loop
+sub-number-at c = omega (arith, bounds (entry (c .before .before .before .before .before .before)))
 
-part-count-in-start : tie.Need-part-count-in-start Inv-loop μ-loop
-part-count-in-start c = omega (arith, bounds (entry (c .before .before .before .before .before .before)))
+part-number-at-start : tie.Need-part-number-at-start Inv-loop μ-loop
+part-number-at-start c = omega (arith, bounds (entry (c .before .before .before .before .before .before)))
 
-part-count-in-end : tie.Need-part-count-in-end Inv-loop μ-loop
-part-count-in-end c = omega (arith, bounds (entry (c .before .before .before .before .before .before)))
+part-number-at-end : tie.Need-part-number-at-end Inv-loop μ-loop
+part-number-at-end c = omega (arith, bounds (entry (c .before .before .before .before .before .before)))
 
-count-in-requires : tie.Need-count-in-requires Inv-loop μ-loop
-count-in-requires c κs = let t = entry (c .before .before .before .before .before .before .before) in (headed-here t, width-here t (c .before .before .before .before .if1 .left))
+number-at-requires : tie.Need-number-at-requires Inv-loop μ-loop
+number-at-requires c κs = let t = entry (c .before .before .before .before .before .before .before) in (headed-here t, omega arith, width-here t (c .before .before .before .before .if1 .left))
 
 returns : tie.Need-returns Inv-loop μ-loop
-returns c = merged-exceeds (c .before .before .before .before .before .before .before .before .before .before .before .before .before .loop .inv) (entry (c .before .before .before .before .before .before .before .before .before .before)) (c .before .before .before .before .before .before .before .if1 .left) (c .before .before .before .before .count-for .ensures) _ (c .before .before .count-in .ensures) (c .if2 .taken)
+returns c = merged-exceeds (c .before .before .before .before .before .before .before .before .before .before .before .before .before .loop .inv) (entry (c .before .before .before .before .before .before .before .before .before .before)) (c .before .before .before .before .before .before .before .if1 .left) (c .before .before .before .before .count-for .ensures) _ (c .before .before .number-at .ensures) (c .if2 .taken)
 
 add-from : tie.Need-add-from Inv-loop μ-loop
 add-from c = omega (arith, to-fits (c .before .before .before .before .before .before .before .before .before .before .before .before .before .before .loop .inv) (entry (c .before .before .before .before .before .before .before .before .before .before .before)) (c .before .before .before .before .before .before .before .before .if1 .left) (c .before .before .before .before .before .count-for .ensures))
@@ -90,7 +90,7 @@ loop-less-2 : tie.Need-loop-less-2 Inv-loop μ-loop
 loop-less-2 c = turn-falls _ _ _ _ _ (entry (c .before .before .before .before .before .before .before .before .before .before .before))
 
 loop-again-2 : tie.Need-loop-again-2 Inv-loop μ-loop
-loop-again-2 c = merged-topic (c .before .before .before .before .before .before .before .before .before .before .before .before .before .before .loop .inv) (entry (c .before .before .before .before .before .before .before .before .before .before .before)) (c .before .before .before .before .before .before .before .before .if1 .left) (c .before .before .before .before .before .count-for .ensures) _ (c .before .before .before .count-in .ensures) (c .before .if2 .left)
+loop-again-2 c = merged-topic (c .before .before .before .before .before .before .before .before .before .before .before .before .before .before .loop .inv) (entry (c .before .before .before .before .before .before .before .before .before .before .before)) (c .before .before .before .before .before .before .before .before .if1 .left) (c .before .before .before .before .before .count-for .ensures) _ (c .before .before .before .number-at .ensures) (c .before .if2 .left)
 
 enum-told : tie.Need-enum-told Inv-loop μ-loop
 enum-told c = search needs
@@ -125,10 +125,10 @@ counts-fit-spec =
     part-count-for-start-2
     part-count-for-end-2
     count-for-requires
-    sub-count-in
-    part-count-in-start
-    part-count-in-end
-    count-in-requires
+    sub-number-at
+    part-number-at-start
+    part-number-at-end
+    number-at-requires
     returns
     add-from
     loop-less-2

@@ -8,8 +8,9 @@ use Rattle.model.specs.Number.{AreBytes}
 use Rattle.keys.proofs.Keys.{known-bytes}
 use Rattle.entries.specs.Entries.{IsRecord}
 use Rattle.entries.proofs.Changes.{is-keyed}
+use Rattle.work.proofs.Made.{record-size}
 use Rattle.group_moves.proofs.Records.{group-is}
-use Rattle.group_moves.proofs.Members.{member-kept, record-most, joined}
+use Rattle.group_moves.proofs.Members.{member-kept, joined}
 use Rattle.group_moves.proofs.join.Statement.{statement}
 use Rattle.group_moves.proofs.join.Tie as tie
 
@@ -33,7 +34,7 @@ slice-aggregate-drop-group : tie.Need-slice-aggregate-drop-group
 slice-aggregate-drop-group c =
     let r = c .before .before .before .before in
     let s = r .before .before .before .before .before in
-    sym (length-take-le _ (r .group-record .last .0) (omega (arith, r .group-record .ensures .1, r .group-record .kept .0, s .pre .5)))
+    sym (length-take-le _ (r .group-record .last .0) (omega (arith, r .group-record .ensures .1, r .group-record .kept .0, s .pre .4)))
 
 drop-group-requires : tie.Need-drop-group-requires
 drop-group-requires c κs =
@@ -47,7 +48,7 @@ put-real-requires c κs =
       d .drop-group .ensures .0,
       s .pre .1,
       member-kept _ (s .pre .2),
-      omega (arith, record-most _ (s .pre .1), d .drop-group .ensures .3, d .drop-group .kept .0, s .pre .4),
+      omega (arith, record-size _ (s .pre .1), d .drop-group .ensures .3, d .drop-group .kept .0, s .pre .3),
     )
 
 same-length : tie.Need-same-length

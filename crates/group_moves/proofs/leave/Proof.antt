@@ -9,8 +9,9 @@ use Rattle.model.specs.Number.{AreBytes}
 use Rattle.keys.proofs.Keys.{known-bytes}
 use Rattle.entries.specs.Entries.{IsRecord}
 use Rattle.entries.proofs.Changes.{is-keyed}
+use Rattle.work.proofs.Made.{record-size}
 use Rattle.group_moves.proofs.Records.{group-is}
-use Rattle.group_moves.proofs.Members.{record-most, group-told, left-others, left-last}
+use Rattle.group_moves.proofs.Members.{group-told, left-others, left-last}
 use Rattle.group_moves.proofs.leave.Statement.{statement}
 use Rattle.group_moves.proofs.leave.Tie as tie
 
@@ -76,7 +77,7 @@ put-group-requires c κs =
     let s = r .before .before .before .before .before in (
       d .drop-real .ensures .0,
       group-record r,
-      omega (arith, group-long r, r .group-record .ensures .1, record-most _ (s .pre .1), d .drop-real .ensures .3, d .drop-real .kept .0, s .pre .4),
+      omega (arith, group-long r, r .group-record .ensures .1, record-size _ (s .pre .1), d .drop-real .ensures .3, d .drop-real .kept .0, s .pre .4),
     )
 
 same-length : tie.Need-same-length

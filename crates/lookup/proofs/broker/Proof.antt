@@ -2,7 +2,8 @@
 use borrow.Author.Needs.{needs}
 use mathlib.Core.Path.{ap, _∙_}
 use lib.ListN.{length}
-use Rattle.lookup.proofs.Answers.{broker-no-image, image-is, broker-query, broker-found}
+use Rattle.judge.proofs.Queries.{broker-query}
+use Rattle.lookup.proofs.Answers.{broker-no-image, image-is, broker-found}
 use Rattle.lookup.proofs.broker.Statement.{statement}
 use Rattle.lookup.proofs.broker.Tie as tie
 

@@ -2,7 +2,8 @@
 use borrow.Author.Needs.{needs}
 use mathlib.Core.Path.{ap, _∙_}
 use Rattle.model.specs.Snapshot.{emit}
-use Rattle.lookup.proofs.Answers.{lent-entries, lent-kept, lent-found}
+use Rattle.reals.proofs.Lent.{lent-entries, lent-kept}
+use Rattle.lookup.proofs.Answers.{lent-found}
 use Rattle.lookup.proofs.entry.Statement.{statement}
 use Rattle.lookup.proofs.entry.Tie as tie
 
@@ -21,7 +22,7 @@ part-emit-found-end c = search needs
 emit-found-requires : tie.Need-emit-found-requires
 emit-found-requires c κs =
     let r = c .before .before .reals-end .ensures in
-    (lent-entries _ _ r, lent-kept _ _ r, c .before .before .before .before .before .before .before .pre .1)
+    (lent-entries _ r, lent-kept _ r, c .before .before .before .before .before .before .before .pre .1)
 
 same-length : tie.Need-same-length
 same-length c = search needs
@@ -29,7 +30,7 @@ same-length c = search needs
 returns : tie.Need-returns
 returns c =
     let e = c .before .before .emit-found .ensures in
-    let same = lent-found _ _ (c .before .before .before .before .before .reals-end .ensures) _ in
+    let same = lent-found _ (c .before .before .before .before .before .reals-end .ensures) _ in
     (e .0 ∙ ap (λ x. emit x (c .before .before .before .before .before .before .before .before .before .before .args .out .now) .reply) same, e .1 ∙ ap (λ x. emit x (c .before .before .before .before .before .before .before .before .before .before .args .out .now) .buffer) same)
 
 pub entry-spec : {M : Type 1} → statement M

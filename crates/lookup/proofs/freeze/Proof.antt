@@ -1,7 +1,8 @@
 -- `lookup::freeze` meets its contract.
 use borrow.Author.Needs.{needs}
 use mathlib.Core.Path.{sym, _∙_}
-use Rattle.lookup.proofs.Answers.{lent-entries, lent-kept, lent-held, name-fits, freeze-no-image, freeze-refused, image-is, freeze-found}
+use Rattle.reals.proofs.Lent.{lent-entries, lent-kept, lent-held}
+use Rattle.lookup.proofs.Answers.{name-fits, freeze-no-image, freeze-refused, image-is, freeze-found}
 use Rattle.lookup.proofs.freeze.Statement.{statement}
 use Rattle.lookup.proofs.freeze.Tie as tie
 
@@ -30,13 +31,13 @@ part-emit-freeze-end : tie.Need-part-emit-freeze-end
 part-emit-freeze-end c = search needs
 
 emit-freeze-requires : tie.Need-emit-freeze-requires
-emit-freeze-requires c κs = (lent-entries _ _ (c .before .before .reals-end .ensures), lent-kept _ _ (c .before .before .reals-end .ensures), name-fits _ (sym (c .before .before .before .if2 .left) ∙ c .before .before .before .before .text-fault .ensures))
+emit-freeze-requires c κs = (lent-entries _ (c .before .before .reals-end .ensures), lent-kept _ (c .before .before .reals-end .ensures), name-fits _ (sym (c .before .before .before .if2 .left) ∙ c .before .before .before .before .text-fault .ensures))
 
 same-length : tie.Need-same-length
 same-length c = search needs
 
 returns-3 : tie.Need-returns-3
-returns-3 c = freeze-found (c .before .before .before .before .before .before .before .before .before .before .before .before .before .args .image .now) (c .before .before .before .before .before .before .before .before .before .before .before .before .before .args .out .now) (c .before .before .before .before .before .before .before .before .before .is-image .ensures) (c .before .before .before .before .before .before .before .before .if1 .left) _ (sym (c .before .before .before .before .before .before .if2 .left) ∙ c .before .before .before .before .before .before .before .text-fault .ensures) (lent-held _ _ (c .before .before .before .before .before .reals-end .ensures)) (c .before .before .emit-freeze .ensures)
+returns-3 c = freeze-found (c .before .before .before .before .before .before .before .before .before .before .before .before .before .args .image .now) (c .before .before .before .before .before .before .before .before .before .before .before .before .before .args .out .now) (c .before .before .before .before .before .before .before .before .before .is-image .ensures) (c .before .before .before .before .before .before .before .before .if1 .left) _ (sym (c .before .before .before .before .before .before .if2 .left) ∙ c .before .before .before .before .before .before .before .text-fault .ensures) (lent-held _ (c .before .before .before .before .before .reals-end .ensures)) (c .before .before .emit-freeze .ensures)
 
 pub freeze-spec : {M : Type 1} → statement M
 freeze-spec =

@@ -3,7 +3,8 @@ use borrow.Author.Needs.{needs}
 use mathlib.Core.Path.{sym, ap, _∙_}
 use Rattle.rates.specs.Rates.{rated}
 use Rattle.lookup.specs.Values.{ratedAs}
-use Rattle.lookup.proofs.Answers.{lent-entries, rate-as}
+use Rattle.reals.proofs.Lent.{lent-entries}
+use Rattle.lookup.proofs.Answers.{rate-as}
 use Rattle.lookup.proofs.rate.Statement.{statement}
 use Rattle.lookup.proofs.rate.Tie as tie
 
@@ -20,7 +21,7 @@ part-rate-in-end : tie.Need-part-rate-in-end
 part-rate-in-end c = search needs
 
 rate-in-requires : tie.Need-rate-in-requires
-rate-in-requires c κs = (lent-entries _ _ (c .before .reals-end .ensures), c .before .before .before .before .pre .1)
+rate-in-requires c κs = (lent-entries _ (c .before .reals-end .ensures), c .before .before .before .before .pre .1)
 
 enum-known-n : tie.Need-enum-known-n
 enum-known-n c = search needs

@@ -1,6 +1,7 @@
 -- `lookup::short_count` meets its contract.
 use borrow.Author.Needs.{needs}
-use Rattle.lookup.proofs.Answers.{lent-entries, lent-held, short-no-image, image-is, short-found}
+use Rattle.reals.proofs.Lent.{lent-entries, lent-held}
+use Rattle.lookup.proofs.Answers.{short-no-image, image-is, short-found}
 use Rattle.lookup.proofs.short_count.Statement.{statement}
 use Rattle.lookup.proofs.short_count.Tie as tie
 
@@ -23,10 +24,10 @@ part-short-in-end : tie.Need-part-short-in-end
 part-short-in-end c = search needs
 
 short-in-requires : tie.Need-short-in-requires
-short-in-requires c κs = lent-entries _ _ (c .before .reals-end .ensures)
+short-in-requires c κs = lent-entries _ (c .before .reals-end .ensures)
 
 returns-2 : tie.Need-returns-2
-returns-2 c = short-found (c .before .before .before .before .before .before .args .image .now) (c .before .before .before .before .before .before .args .image .now) (c .before .before .before .before .is-image .ensures) (c .before .before .before .if1 .left) (lent-held _ _ (c .before .before .reals-end .ensures)) (c .short-in .ensures)
+returns-2 c = short-found (c .before .before .before .before .before .before .args .image .now) (c .before .before .before .before .before .before .args .image .now) (c .before .before .before .before .is-image .ensures) (c .before .before .before .if1 .left) (lent-held _ (c .before .before .reals-end .ensures)) (c .short-in .ensures)
 
 pub short-count-spec : {M : Type 1} → statement M
 short-count-spec =

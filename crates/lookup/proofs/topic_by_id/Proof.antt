@@ -1,6 +1,7 @@
 -- `lookup::topic_by_id` meets its contract.
 use borrow.Author.Needs.{needs}
-use Rattle.lookup.proofs.Answers.{lent-entries, lent-kept, lent-held, id-no-image, image-is, id-found}
+use Rattle.reals.proofs.Lent.{lent-entries, lent-kept, lent-held}
+use Rattle.lookup.proofs.Answers.{id-no-image, image-is, id-found}
 use Rattle.lookup.proofs.topic_by_id.Statement.{statement}
 use Rattle.lookup.proofs.topic_by_id.Tie as tie
 
@@ -23,13 +24,13 @@ part-emit-named-end : tie.Need-part-emit-named-end
 part-emit-named-end c = search needs
 
 emit-named-requires : tie.Need-emit-named-requires
-emit-named-requires c κs = (lent-entries _ _ (c .before .before .before .reals-end .ensures), lent-kept _ _ (c .before .before .before .reals-end .ensures))
+emit-named-requires c κs = (lent-entries _ (c .before .before .before .reals-end .ensures), lent-kept _ (c .before .before .before .reals-end .ensures))
 
 same-length : tie.Need-same-length
 same-length c = search needs
 
 returns-2 : tie.Need-returns-2
-returns-2 c = id-found (c .before .before .before .before .before .before .before .before .before .before .before .args .image .now) (c .before .before .before .before .before .before .before .before .before .before .before .args .out .now) (c .before .before .before .before .before .before .before .before .is-image .ensures) (c .before .before .before .before .before .before .before .if1 .left) _ (lent-held _ _ (c .before .before .before .before .before .before .reals-end .ensures)) (c .before .before .emit-named .ensures)
+returns-2 c = id-found (c .before .before .before .before .before .before .before .before .before .before .before .args .image .now) (c .before .before .before .before .before .before .before .before .before .before .before .args .out .now) (c .before .before .before .before .before .before .before .before .is-image .ensures) (c .before .before .before .before .before .before .before .if1 .left) _ (lent-held _ (c .before .before .before .before .before .before .reals-end .ensures)) (c .before .before .emit-named .ensures)
 
 pub topic-by-id-spec : {M : Type 1} → statement M
 topic-by-id-spec =

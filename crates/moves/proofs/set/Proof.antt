@@ -2,7 +2,8 @@
 use borrow.Author.Needs.{needs}
 use native.Mathlib.Omega.{arith}
 use Rattle.entries.proofs.Changes.{is-keyed}
-use Rattle.moves.proofs.Singles.{record-size, plain-kept, set-put, set-drop}
+use Rattle.work.proofs.Made.{record-size}
+use Rattle.moves.proofs.Singles.{plain-kept, set-put, set-drop}
 use Rattle.moves.proofs.set.Statement.{statement}
 use Rattle.moves.proofs.set.Tie as tie
 

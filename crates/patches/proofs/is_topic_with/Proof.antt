@@ -3,18 +3,19 @@ use mathlib.Core.Path.{_∙_}
 use borrow.Author.Needs.{needs}
 use native.Mathlib.Omega.{arith}
 use Rattle.keys.proofs.Found.{lent-slice}
-use Rattle.patches.proofs.Entries.{headed, other-kind, field-says}
+use Rattle.stored.proofs.Records.{headed}
+use Rattle.patches.proofs.Entries.{other-kind, field-says}
 use Rattle.patches.proofs.is_topic_with.Statement.{statement}
 use Rattle.patches.proofs.is_topic_with.Tie as tie
 
 shared-slice-read-if1 : tie.Need-shared-slice-read-if1
-shared-slice-read-if1 c = omega (arith, headed (c .before .before .before .pre))
+shared-slice-read-if1 c = omega (arith, headed _ (c .before .before .before .pre))
 
 returns : tie.Need-returns
 returns c = other-kind (c .before .before .before .before .pre) _ _ (c .if1 .taken)
 
 value-at-requires : tie.Need-value-at-requires
-value-at-requires c κs = headed (c .before .before .before .before .pre)
+value-at-requires c κs = headed _ (c .before .before .before .before .pre)
 
 sub-same : tie.Need-sub-same
 sub-same c = search needs

@@ -8,7 +8,6 @@ use Rattle.settled.proofs.agrees.Statement.{statement}
 use Rattle.settled.proofs.agrees.Tie as tie
 use Rattle.settled.proofs.agrees.Reads as reads
 use Rattle.settled.proofs.agrees.Lts as lts
-use Rattle.settled.proofs.number_at.Reads as number-at-reads
 
 number-at-requires : tie.Need-number-at-requires
 number-at-requires c κs = search needs

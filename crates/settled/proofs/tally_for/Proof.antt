@@ -9,7 +9,6 @@ use Rattle.settled.proofs.tally_for.Tie as tie
 use Rattle.settled.proofs.tally_for.Reads as reads
 use Rattle.settled.proofs.tally_for.Lts as lts
 use Rattle.keys.proofs.value_at.Reads as value-at-reads
-use Rattle.settled.proofs.number_at.Reads as number-at-reads
 use Rattle.settled.proofs.tally_of.Reads as tally-of-reads
 
 value-at-requires : tie.Need-value-at-requires

@@ -6,7 +6,7 @@ use lib.Seq.{length-take-le}
 use Rattle.model.specs.Run.{value}
 use Rattle.stored.proofs.Records.{headed, run-in}
 use Rattle.judge.proofs.Fields.{lent-value}
-use Rattle.moves.proofs.Singles.{record-size}
+use Rattle.work.proofs.Made.{record-size}
 use Rattle.topic_moves.proofs.Moved.{counts-few, part-kept, part-moved}
 use Rattle.topic_moves.proofs.put_partition.Statement.{statement}
 use Rattle.topic_moves.proofs.put_partition.Tie as tie

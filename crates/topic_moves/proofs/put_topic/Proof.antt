@@ -6,7 +6,7 @@ use lib.Seq.{length-take-le}
 use Rattle.keys.proofs.Keys.{known-bytes}
 use Rattle.judge.proofs.Logged.{headed as logged-headed, topic-logged}
 use Rattle.judge.proofs.Fields.{lent-value}
-use Rattle.moves.proofs.Singles.{record-size}
+use Rattle.work.proofs.Made.{record-size}
 use Rattle.topic_moves.proofs.Moved.{count-fits, topic-is, topic-kept, topic-moved}
 use Rattle.topic_moves.proofs.put_topic.Statement.{statement}
 use Rattle.topic_moves.proofs.put_topic.Tie as tie

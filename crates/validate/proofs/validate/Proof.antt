@@ -4,7 +4,8 @@ use native.Mathlib.Omega.{arith}
 use mathlib.Core.Path.{sym, ap, _∙_}
 use Rattle.keys.proofs.Keys.{known-bytes}
 use Rattle.records.specs.Answers.{replied}
-use Rattle.validate.proofs.Verdicts.{record-length, record-logged, lent-entries, no-image, image-is, read-refused, judged}
+use Rattle.reals.proofs.Lent.{lent-entries}
+use Rattle.validate.proofs.Verdicts.{record-length, record-logged, no-image, image-is, read-refused, judged}
 use Rattle.validate.proofs.validate.Statement.{statement}
 use Rattle.validate.proofs.validate.Tie as tie
 
@@ -41,7 +42,7 @@ slice-aggregate-judge c = record-length (c .before .before .before .before .befo
 judge-requires : tie.Need-judge-requires
 judge-requires c κs =
     let r = c .before .before .reals-end .ensures in
-    (lent-entries _ _ r, record-logged (c .before .before .before .before .before .before .before .before .before .before .before .args .input .now) (known-bytes (c .before .before .before .before .before .before .before .before .before .before .before .args .input .now) (λ i. omega (arith, c .before .before .before .before .before .before .before .before .before .shared-slice-known2 .given i))) (ap replied (sym (c .before .before .before .before .n .given .1)) ∙ c .before .before .before .before .before .before .read .ensures))
+    (lent-entries _ r, record-logged (c .before .before .before .before .before .before .before .before .before .before .before .args .input .now) (known-bytes (c .before .before .before .before .before .before .before .before .before .before .before .args .input .now) (λ i. omega (arith, c .before .before .before .before .before .before .before .before .before .shared-slice-known2 .given i))) (ap replied (sym (c .before .before .before .before .n .given .1)) ∙ c .before .before .before .before .before .before .read .ensures))
 
 returns-2 : tie.Need-returns-2
 returns-2 c = read-refused (c .before .before .before .before .before .before .before .before .args .image .now) (c .before .before .before .before .before .before .before .before .args .input .now) (c .before .before .before .before .before .is-image .ensures) (c .before .before .before .before .if1 .left) (ap replied (sym (c .before .number .given .1)) ∙ c .before .before .before .read .ensures)

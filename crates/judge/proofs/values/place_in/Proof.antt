@@ -1,13 +1,17 @@
 -- `values::place_in` meets its contract: half the width more, or half the width less.
+use Prim.Native.Nat.{_<_}
 use borrow.Author.Needs.{needs}
+use native.Mathlib.Omega.{arith}
+use Rattle.model.specs.Number.{span}
 use Rattle.model.specs.Run.{value}
 use Rattle.keys.specs.Keys.{runIn}
+use Rattle.keys.proofs.Keys.{known-bytes, number-below}
 use Rattle.judge.proofs.Fields.{place-fits, place-up, place-down}
 use Rattle.judge.proofs.values.place_in.Statement.{statement}
 use Rattle.judge.proofs.values.place_in.Tie as tie
 
-number-in-requires : tie.Need-number-in-requires
-number-in-requires c κs = search needs
+number-at-requires : tie.Need-number-at-requires
+number-at-requires c κs = search needs
 
 half-of-requires : tie.Need-half-of-requires
 half-of-requires c κs = search needs
@@ -18,13 +22,17 @@ add-result c = let a = c .before .before .before .before in record { fits = plac
 returns : tie.Need-returns
 returns c =
     let a = c .before .before .before .before .args in
-    place-up _ _ _ (c .before .half-of .ensures) (value (a .tag) (runIn (a .e .now))) (c .before .before .number-in .ensures .0) (c .if1 .taken)
+    place-up _ _ _ (c .before .half-of .ensures) (value (a .tag) (runIn (a .e .now))) (c .before .before .number-at .ensures) (c .if1 .taken)
 
 returns-2 : tie.Need-returns-2
 returns-2 c =
-    let a = c .before .before .before .before .args in
-    place-down _ _ _ (c .before .half-of .ensures) (value (a .tag) (runIn (a .e .now))) (c .before .before .number-in .ensures) (c .if1 .left)
+    let a = c .before .before .before .before in
+    let e = a .args .e .now in
+    let n = c .before .before .number-at .ensures in
+    let areBytes = known-bytes e (λ i. omega (arith, c .before .before .before .shared-slice-known .given i)) in
+    let below : c .before .before .number-at .result < span (a .args .width) = rw n (number-below e areBytes (a .args .tag) (a .args .width) (a .pre .3)) in
+    place-down _ _ _ (c .before .half-of .ensures) (value (a .args .tag) (runIn e)) (n, below) (c .if1 .left)
 
 pub place-in-spec : {M : Type 1} → statement M
 place-in-spec =
-    tie.close (tie.spec number-in-requires half-of-requires add-result returns returns-2)
+    tie.close (tie.spec number-at-requires half-of-requires add-result returns returns-2)

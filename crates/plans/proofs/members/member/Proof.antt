@@ -1,7 +1,7 @@
 -- `members::member` meets its contract.
 use borrow.Author.Needs.{needs}
 use native.Mathlib.Omega.{arith}
-use Rattle.moves.proofs.Singles.{record-size}
+use Rattle.work.proofs.Made.{record-size}
 use Rattle.plans.proofs.Arms.{left, joined}
 use Rattle.plans.proofs.members.member.Statement.{statement}
 use Rattle.plans.proofs.members.member.Tie as tie
@@ -22,7 +22,7 @@ returns : tie.Need-returns
 returns c = left _ (c .before .before .before .before .before .before .before .before .before .before .before .before .pre .2) (c .before .before .before .before .before .before .before .before .is-bare .ensures) (c .before .before .before .before .before .before .before .if1 .taken) (c .before .before .before .before .leave .ensures)
 
 join-requires : tie.Need-join-requires
-join-requires c κs = (c .before .before .before .before .before .before .before .pre .0, c .before .before .before .before .before .before .before .pre .1, c .before .before .before .before .before .before .before .pre .2, c .before .before .before .before .before .before .before .pre .3, c .before .before .before .before .before .before .before .pre .4, omega (arith, record-size _ (c .before .before .before .before .before .before .before .pre .1), c .before .before .before .before .before .before .before .pre .5))
+join-requires c κs = (c .before .before .before .before .before .before .before .pre .0, c .before .before .before .before .before .before .before .pre .1, c .before .before .before .before .before .before .before .pre .2, c .before .before .before .before .before .before .before .pre .4, omega (arith, record-size _ (c .before .before .before .before .before .before .before .pre .1), c .before .before .before .before .before .before .before .pre .5))
 
 same-length-3 : tie.Need-same-length-3
 same-length-3 c = search needs

@@ -4,8 +4,8 @@ use mathlib.Core.Path.{sym}
 use native.Mathlib.Omega.{arith}
 use lib.Seq.{length-take-le}
 use Rattle.keys.proofs.Keys.{known-bytes}
-use Rattle.moves.proofs.Singles.{record-size}
 use Rattle.entity_sort.proofs.Results.{sorted-is, sorted-in}
+use Rattle.work.proofs.Made.{record-size}
 use Rattle.plans.proofs.Arms.{sorted-grouped, sorted-ordered, quota-made}
 use Rattle.plans.proofs.members.quota.Statement.{statement}
 use Rattle.plans.proofs.members.quota.Tie as tie

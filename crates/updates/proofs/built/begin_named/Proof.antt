@@ -5,18 +5,18 @@ use lib.Dec.{lit<}
 use Rattle.model.specs.Run.{done, value, setField}
 use Rattle.keys.specs.Keys.{runIn}
 use Rattle.updates.specs.Updates.{partitionOf}
-use Rattle.updates.proofs.Drafting.{lent, Drafted, begun, step-asks, step-says}
+use Rattle.updates.proofs.Drafting.{lent, Upto, begun, step-asks, step-says}
 use Rattle.updates.proofs.Values.{update-headed, name-short, number-short, named-is}
 use Rattle.updates.proofs.built.begin_named.Statement.{statement}
 use Rattle.updates.proofs.built.begin_named.Tie as tie
 
 -- the record with no field
-bare : (c : tie.After-begin) → Drafted (c .begin .last .0) (c .begin .result) (c .before .before .before .before .before .before .args .kind) done 3
+bare : (c : tie.After-begin) → Upto 3 (c .begin .last .0) (c .begin .result) (c .before .before .before .before .before .before .args .kind) done
 bare c = begun (c .begin .last .0) (c .begin .result) (c .before .before .before .before .before .before .args .kind) (c .begin .ensures)
 
 -- the record with the name
 with-name : (c : tie.After-set-field)
-    → Drafted (c .set-field .last .0) (c .set-field .result) (c .before .before .before .before .before .before .before .before .before .before .before .args .kind) (setField 1 (value 1 (partitionOf (runIn (c .before .before .before .before .before .before .before .before .before .before .before .args .rec .now)))) done) 261
+    → Upto 261 (c .set-field .last .0) (c .set-field .result) (c .before .before .before .before .before .before .before .before .before .before .before .args .kind) (setField 1 (value 1 (partitionOf (runIn (c .before .before .before .before .before .before .before .before .before .before .before .args .rec .now)))) done)
 with-name c =
     let a = c .before .before .before .before .before .before .before .before .nested-at in
     let s = c .before .before .before .before .before .before .before .before .before .before .before .args .rec .now in

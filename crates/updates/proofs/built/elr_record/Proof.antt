@@ -6,18 +6,18 @@ use lib.Dec.{lit<}
 use Rattle.model.specs.Run.{value, setField}
 use Rattle.keys.specs.Keys.{runIn}
 use Rattle.updates.specs.Updates.{namedOf}
-use Rattle.updates.proofs.Drafting.{Drafted, step-asks, step-says}
+use Rattle.updates.proofs.Drafting.{Upto, step-asks, step-says}
 use Rattle.updates.proofs.Values.{update-headed, eligible-short, known-short, named-draft, elr-built}
 use Rattle.updates.proofs.built.elr_record.Statement.{statement}
 use Rattle.updates.proofs.built.elr_record.Tie as tie
 
 -- the record with the name and the number
-begun : (c : tie.After-begin-named) → Drafted (c .begin-named .last .0) (c .begin-named .result) 21 (namedOf (runIn (c .before .before .before .before .args .rec .now))) 268
+begun : (c : tie.After-begin-named) → Upto 268 (c .begin-named .last .0) (c .begin-named .result) 21 (namedOf (runIn (c .before .before .before .before .args .rec .now)))
 begun c = named-draft (c .before .before .before .before .args .rec .now) (c .before .before .before .before .pre .0) (c .begin-named .last .0) (c .begin-named .result) 21 (c .begin-named .ensures)
 
 -- the record with the first list
 with-eligible : (c : tie.After-copy-field)
-    → Drafted (c .copy-field .last .0) (c .copy-field .result) 21 (setField 3 (value 2 (runIn (c .before .before .before .before .before .before .before .before .args .rec .now))) (namedOf (runIn (c .before .before .before .before .before .before .before .before .args .rec .now)))) 783
+    → Upto 783 (c .copy-field .last .0) (c .copy-field .result) 21 (setField 3 (value 2 (runIn (c .before .before .before .before .before .before .before .before .args .rec .now))) (namedOf (runIn (c .before .before .before .before .before .before .before .before .args .rec .now))))
 with-eligible c =
     step-says (begun (c .before .before .before .before)) refl 512 (eligible-short _ (c .before .before .before .before .before .before .before .before .pre .0)) (lit< tt) 3 (c .copy-field .last .0) (c .copy-field .result) (c .copy-field .ensures)
 

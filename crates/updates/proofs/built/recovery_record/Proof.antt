@@ -6,13 +6,13 @@ use lib.Dec.{lit<}
 use Rattle.model.specs.Run.{value}
 use Rattle.keys.specs.Keys.{runIn}
 use Rattle.updates.specs.Updates.{namedOf}
-use Rattle.updates.proofs.Drafting.{Drafted, step-asks, step-says}
+use Rattle.updates.proofs.Drafting.{Upto, step-asks, step-says}
 use Rattle.updates.proofs.Values.{update-headed, state-short, named-draft, recovery-built}
 use Rattle.updates.proofs.built.recovery_record.Statement.{statement}
 use Rattle.updates.proofs.built.recovery_record.Tie as tie
 
 -- the record with the name and the number
-begun : (c : tie.After-begin-named) → Drafted (c .begin-named .last .0) (c .begin-named .result) 22 (namedOf (runIn (c .before .before .before .before .args .rec .now))) 268
+begun : (c : tie.After-begin-named) → Upto 268 (c .begin-named .last .0) (c .begin-named .result) 22 (namedOf (runIn (c .before .before .before .before .args .rec .now)))
 begun c = named-draft (c .before .before .before .before .args .rec .now) (c .before .before .before .before .pre .0) (c .begin-named .last .0) (c .begin-named .result) 22 (c .begin-named .ensures)
 
 begin-named-requires : tie.Need-begin-named-requires
