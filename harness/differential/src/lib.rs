@@ -2,6 +2,8 @@
 //! the programs of this crate compare and time them.
 
 #[cfg(feature = "images")]
+mod asked;
+#[cfg(feature = "images")]
 pub mod benchmarks;
 mod entry;
 #[cfg(feature = "images")]
@@ -13,6 +15,8 @@ mod random;
 pub mod timing;
 mod typical;
 
+#[cfg(feature = "images")]
+pub use asked::{Asked, ended};
 pub use entry::*;
 pub use inputs::{Inputs, Lists};
 pub use typical::typical;

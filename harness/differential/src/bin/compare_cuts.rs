@@ -6,30 +6,18 @@
 //!
 //!     cargo run --release --features images --bin compare_cuts -- 100 1
 
-use std::env;
 use std::process::ExitCode;
 
 use differential::histories::compare_cuts;
-use differential::images::{Compared, Tally};
+use differential::images::Tally;
+use differential::{Asked, ended};
 
 fn main() -> ExitCode {
-    let mut args = env::args()
-        .skip(1)
-        .map(|arg| arg.parse().expect("a number"));
-    let histories: u64 = args.next().unwrap_or(100);
-    let seed: u64 = args.next().unwrap_or(1);
+    let asked = Asked::from_args();
     let mut tally = Tally::default();
-    if let Err(difference) = compare(&mut tally, histories, seed) {
-        println!("{difference}");
-        return ExitCode::FAILURE;
-    }
-    print!("{histories} histories with cuts from seed {seed}, all equal\n{tally}");
-    ExitCode::SUCCESS
-}
-
-fn compare(tally: &mut Tally, histories: u64, seed: u64) -> Compared {
-    for seed in seed..seed + histories {
-        compare_cuts(tally, seed).map_err(|difference| format!("seed {seed}: {difference}"))?;
-    }
-    Ok(())
+    let compared = asked.each(|seed| compare_cuts(&mut tally, seed));
+    let Asked { histories, seed } = asked;
+    ended(compared, || {
+        format!("{histories} histories with cuts from seed {seed}, all equal\n{tally}")
+    })
 }

@@ -6,34 +6,23 @@
 //!
 //!     cargo run --release --features images --bin compare_histories -- 100 1
 
-use std::env;
 use std::process::ExitCode;
 
 use differential::histories::{compare_drawn, compare_no_image, compare_short};
-use differential::images::{Compared, Tally};
+use differential::images::Tally;
+use differential::{Asked, ended};
 
 fn main() -> ExitCode {
-    let mut args = env::args()
-        .skip(1)
-        .map(|arg| arg.parse().expect("a number"));
-    let histories: u64 = args.next().unwrap_or(100);
-    let seed: u64 = args.next().unwrap_or(1);
+    let asked = Asked::from_args();
     let (mut short, mut drawn) = (Tally::default(), Tally::default());
     let compared = compare_no_image(&mut short)
         .and_then(|()| compare_short(&mut short))
-        .and_then(|()| compare(&mut drawn, histories, seed));
-    if let Err(difference) = compared {
-        println!("{difference}");
-        return ExitCode::FAILURE;
-    }
-    print!("all short histories, all equal\n{short}");
-    print!("{histories} histories from seed {seed}, at four capacities each, all equal\n{drawn}");
-    ExitCode::SUCCESS
-}
-
-fn compare(tally: &mut Tally, histories: u64, seed: u64) -> Compared {
-    for seed in seed..seed + histories {
-        compare_drawn(tally, seed).map_err(|difference| format!("seed {seed}: {difference}"))?;
-    }
-    Ok(())
+        .and_then(|()| asked.each(|seed| compare_drawn(&mut drawn, seed)));
+    let Asked { histories, seed } = asked;
+    ended(compared, || {
+        format!(
+            "all short histories, all equal\n{short}\
+             {histories} histories from seed {seed}, at four capacities each, all equal\n{drawn}"
+        )
+    })
 }
