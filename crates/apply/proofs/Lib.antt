@@ -1,4 +1,1 @@
-pub mod Light
-pub mod Stepping
 pub mod Applying
-pub mod Restoring

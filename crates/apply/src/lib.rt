@@ -1,16 +1,11 @@
-// Apply: what a record makes of an image, or a refusal that changes nothing. And Restore, which makes the image of records from nothing.
-mod restores;
-mod step;
-
+// Apply: what a record makes of an image, or a refusal that changes nothing.
+use attempt::Tried;
+use attempt::try_in;
 use header::NO_IMAGE;
 use image::is_image;
 use lay::lay;
 use records::Answer;
 use records::read;
-pub use restores::Restored;
-pub use restores::restore;
-use step::Tried;
-use step::try_in;
 ghost use mathlib.Core.Path.{_≡_};
 ghost use mathlib.Core.Bool.{true};
 ghost use lib.ListN.{length};

@@ -8,7 +8,7 @@ use Rattle.model.specs.Kind.{kindOf}
 use Rattle.model.specs.declared.Kind.{Kind}
 use Rattle.model.specs.Reply.{unchanged}
 use Rattle.model.specs.Record.{writeOf}
-use Rattle.exports.specs.Exports.{writeOfNumber}
+use Rattle.exports.specs.Write.{writeOfNumber}
 
 module _ (n : ℕ) (tags : Bytes) (lengths : List ℕ) (values out : Bytes) where
   pub by-kind : (k : Kind) → kindOf n ≡ some k → writeOfNumber n tags lengths values out ≡ writeOf k tags lengths values out

@@ -2,9 +2,8 @@
 use mathlib.Core.Path.{_≡_, refl, sym, ap, _∙_}
 use mathlib.Core.Bool.{Bool, true, false, cond}
 use mathlib.Core.List.{List, [], _∷_}
-use Prim.Native.Nat.{ℕ, _+_, _*_, _≤_, _<_}
+use Prim.Native.Nat.{ℕ, _+_, _*_}
 use native.Mathlib.Omega.{arith}
-use lib.ListN.{length, set}
 use Rattle.model.specs.Reply.{Reply}
 use Rattle.header.specs.Header.{numbered}
 use Rattle.lookup.specs.Values.{valued, rating}
@@ -13,35 +12,25 @@ use Rattle.lookup.specs.declared.Value.the-variants.{Is, Refused}
 use Rattle.lookup.specs.declared.Rated.{Rated}
 use Rattle.lookup.specs.declared.Rated.the-variants as rated
 use Rattle.lookup.specs.declared.Rated.the-variants.{Rate, None}
-use Rattle.apply.specs.Restore.{restored}
-use Rattle.apply.specs.declared.restores.Restored.{Restored}
-use Rattle.apply.specs.declared.restores.Restored.the-variants as end
-use Rattle.exports.specs.Exports.{packed}
-use Rattle.exports.specs.Images.{firstIs, counted, widened}
+use Rattle.restore.specs.Restore.{restored}
+use Rattle.restore.specs.declared.Restored.{Restored}
+use Rattle.restore.specs.declared.Restored.the-variants as end
+use Rattle.packing.specs.Packed.{packed, firstIs, counted, widened}
 
 -- a number alone
-pub packed-number : {n w : ℕ} {r : Reply} → w ≡ n → numbered n ≡ r → w * 4294967296 ≡ packed r
-packed-number {n} {w} e q = let k : w * 4294967296 ≡ packed (numbered n) = omega (arith, e) in k ∙ ap packed q
+pub packed-number : {n x : ℕ} {r : Reply} → x ≡ n * 4294967296 → numbered n ≡ r → x ≡ packed r
+packed-number {n} {x} e q = let k : x ≡ packed (numbered n) = omega (arith, e) in k ∙ ap packed q
 
 pub one-zero : {a b : Bool} (x : Bool) → a ≡ b → a ≡ x → _≡_ {A = ℕ} (cond x 1 0) (cond b 1 0)
 one-zero x e h = ap {B = ℕ} (λ t. cond t 1 0) (sym h ∙ e)
-
--- a value into the first place of a list, and where there is no place
-pub set-first : (n : ℕ) (l : List ℕ) → 0 < length l → set l 0 n ≡ firstIs (n ∷ []) l
-set-first n [] q = absurd (omega arith)
-set-first n (x ∷ l) q = refl
-
-pub no-first : (n : ℕ) (l : List ℕ) → length l ≤ 0 → l ≡ firstIs (n ∷ []) l
-no-first n [] q = refl
-no-first n (x ∷ l) q = absurd (omega arith)
 
 -- a value, or a refusal's number
 module _ {v : Value} {r : Reply} (e : valued v ≡ r) where
   pub packed-value : {n : ℕ} → v ≡ Is n → n ≡ packed r
   packed-value {n} h = let k : n ≡ packed (valued (Is n)) = omega arith in k ∙ ap packed (ap valued (sym h) ∙ e)
 
-  pub packed-refused : {n w : ℕ} → v ≡ Refused n → w ≡ n → w * 4294967296 ≡ packed r
-  packed-refused {n} {w} h q = let k : w * 4294967296 ≡ packed (valued (Refused n)) = omega (arith, q) in k ∙ ap packed (ap valued (sym h) ∙ e)
+  pub packed-refused : {n x : ℕ} → v ≡ Refused n → x ≡ n * 4294967296 → x ≡ packed r
+  packed-refused {n} {x} h q = let k : x ≡ packed (valued (Refused n)) = omega (arith, q) in k ∙ ap packed (ap valued (sym h) ∙ e)
 
   -- a wide value
   is-value : {n : ℕ} → v ≡ Is n → valued (Is n) ≡ r
@@ -50,8 +39,8 @@ module _ {v : Value} {r : Reply} (e : valued v ≡ r) where
   pub wide-value : {n : ℕ} {m : List ℕ} → v ≡ Is n → (l : List ℕ) → m ≡ firstIs (n ∷ []) l → (0 ≡ r .number * 4294967296) × (m ≡ widened r l)
   wide-value h l q = rw (← is-value h) (refl, q)
 
-  pub wide-refused : {n w : ℕ} → v ≡ Refused n → w ≡ n → (l : List ℕ) → (w * 4294967296 ≡ r .number * 4294967296) × (l ≡ widened r l)
-  wide-refused {n} {w} h q l = rw (← (ap valued (sym h) ∙ e)) (ap (λ x. x * 4294967296) q, refl)
+  pub wide-refused : {n x : ℕ} → v ≡ Refused n → x ≡ n * 4294967296 → (l : List ℕ) → (x ≡ r .number * 4294967296) × (l ≡ widened r l)
+  wide-refused h q l = rw (← (ap valued (sym h) ∙ e)) (q, refl)
 
 -- a wide value that may be none
 module _ {v : Rated} {r : Reply} (e : rating v ≡ r) where
@@ -64,9 +53,9 @@ module _ {v : Rated} {r : Reply} (e : rating v ≡ r) where
   pub rate-none : v ≡ None → (l : List ℕ) → (0 ≡ counted r) × (l ≡ widened r l)
   rate-none h l = rw (← rated-as None h) (refl, refl)
 
-  pub rate-refused : {n w : ℕ} → v ≡ rated.Refused n → w ≡ n → (l : List ℕ) → (w * 4294967296 ≡ counted r) × (l ≡ widened r l)
-  rate-refused {n} {w} h q l =
-      let k : w * 4294967296 ≡ n * 4294967296 + 0 = omega (arith, q) in
+  pub rate-refused : {n x : ℕ} → v ≡ rated.Refused n → x ≡ n * 4294967296 → (l : List ℕ) → (x ≡ counted r) × (l ≡ widened r l)
+  rate-refused {n} {x} h q l =
+      let k : x ≡ n * 4294967296 + 0 = omega (arith, q) in
       rw (← rated-as (rated.Refused n) h) (k, refl)
 
 -- a restore's end: its number, and a record's place
@@ -77,8 +66,8 @@ module _ {v : Restored} {r : Reply} (e : restored v ≡ r) where
   pub restore-done : v ≡ end.Done → (l : List ℕ) → (0 ≡ r .number * 4294967296) × (l ≡ widened r l)
   restore-done h l = rw (← ended-as end.Done h) (refl, refl)
 
-  pub restore-refused : {n w : ℕ} → v ≡ end.Refused n → w ≡ n → (l : List ℕ) → (w * 4294967296 ≡ r .number * 4294967296) × (l ≡ widened r l)
-  restore-refused {n} {w} h q l = rw (← ended-as (end.Refused n) h) (ap (λ x. x * 4294967296) q, refl)
+  pub restore-refused : {n x : ℕ} → v ≡ end.Refused n → x ≡ n * 4294967296 → (l : List ℕ) → (x ≡ r .number * 4294967296) × (l ≡ widened r l)
+  restore-refused {n} h q l = rw (← ended-as (end.Refused n) h) (q, refl)
 
-  pub restore-stopped : {n at w : ℕ} {m : List ℕ} → v ≡ end.Stopped n at → w ≡ n → (l : List ℕ) → m ≡ firstIs (at ∷ []) l → (w * 4294967296 ≡ r .number * 4294967296) × (m ≡ widened r l)
-  restore-stopped {n} {at} h q l p = rw (← ended-as (end.Stopped n at) h) (ap (λ x. x * 4294967296) q, p)
+  pub restore-stopped : {n at x : ℕ} {m : List ℕ} → v ≡ end.Stopped n at → x ≡ n * 4294967296 → (l : List ℕ) → m ≡ firstIs (at ∷ []) l → (x ≡ r .number * 4294967296) × (m ≡ widened r l)
+  restore-stopped {n} {at} h q l p = rw (← ended-as (end.Stopped n at) h) (q, p)

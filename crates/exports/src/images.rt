@@ -1,10 +1,10 @@
 // Open, the exact test, Validate, Apply and the lookups for programs in other languages.
-use crate::pack;
-use crate::put_first;
 use lookup::Rated;
 use lookup::Value;
 use model::NodeId;
-use wire::wide;
+use packing::alone;
+use packing::pack;
+use packing::put_first;
 ghost use mathlib.Core.Path.{_≡_};
 ghost use mathlib.Core.Bool.{cond};
 ghost use Prim.Native.Nat.{_*_};
@@ -12,8 +12,7 @@ ghost use Rattle.model.specs.Apply.{applyOf};
 ghost use Rattle.model.specs.Image.{isImage, openOf};
 ghost use Rattle.model.specs.Lookup.{topicByName, topicById, partitionOf, brokerOf, epochOf, shortOf, freezeOf, throttleOf};
 ghost use Rattle.model.specs.Validate.{validateOf};
-ghost use Rattle.exports.specs.Exports.{packed};
-ghost use Rattle.exports.specs.Images.{counted, widened};
+ghost use Rattle.packing.specs.Packed.{packed, counted, widened};
 
 // Opens a fresh image in a buffer of 128 to 65,536 bytes.
 #[no_mangle]
@@ -21,7 +20,7 @@ pub extern "C" fn jeghatuf_open(buffer: &mut [u8]) -> u64
     ensures { λ r. ⌜ r ≡ packed (openOf (now (buffer .entry)) .reply) ⌝ }
     ensures { λ _. ⌜ now (buffer .exit) ≡ openOf (now (buffer .entry)) .buffer ⌝ }
 {
-    wide(header::open(buffer)) * 0x1_0000_0000
+    alone(header::open(buffer))
 }
 
 // Whether a buffer is an image: 1 or 0.
@@ -40,7 +39,7 @@ pub extern "C" fn jeghatuf_is_image(buffer: &[u8]) -> u64
 pub extern "C" fn jeghatuf_validate(image: &[u8], input: &[u8]) -> u64
     ensures { λ r. ⌜ r ≡ packed (validateOf (now (image .entry)) (now (input .entry))) ⌝ }
 {
-    wide(validate::validate(image, input)) * 0x1_0000_0000
+    alone(validate::validate(image, input))
 }
 
 // Applies the record at the start of `input` to an image.
@@ -49,7 +48,7 @@ pub extern "C" fn jeghatuf_apply(image: &mut [u8], input: &[u8]) -> u64
     ensures { λ r. ⌜ r ≡ packed (applyOf (now (image .entry)) (now (input .entry)) .reply) ⌝ }
     ensures { λ _. ⌜ now (image .exit) ≡ applyOf (now (image .entry)) (now (input .entry)) .buffer ⌝ }
 {
-    wide(apply::apply(image, input)) * 0x1_0000_0000
+    alone(apply::apply(image, input))
 }
 
 // The topic of a name, as its record: the bytes written.
@@ -95,7 +94,7 @@ pub extern "C" fn jeghatuf_short_count(image: &[u8]) -> u64
 {
     match lookup::short_count(image) {
         Value::Is(n) => n,
-        Value::Refused(number) => wide(number) * 0x1_0000_0000,
+        Value::Refused(number) => alone(number),
     }
 }
 
@@ -110,7 +109,7 @@ pub extern "C" fn jeghatuf_features_epoch(image: &[u8], value: &mut [u64]) -> u6
             put_first(value, n);
             0
         }
-        Value::Refused(number) => wide(number) * 0x1_0000_0000,
+        Value::Refused(number) => alone(number),
     }
 }
 
@@ -135,6 +134,6 @@ pub extern "C" fn jeghatuf_throttle(image: &[u8], node: u64, kind: u8, value: &m
             1
         }
         Rated::None => 0,
-        Rated::Refused(number) => wide(number) * 0x1_0000_0000,
+        Rated::Refused(number) => alone(number),
     }
 }

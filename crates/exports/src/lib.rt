@@ -2,73 +2,15 @@
 mod images;
 mod restarts;
 
-use model::Kind;
+use packing::kinds::Numbered;
+use packing::kinds::kind_of;
+use packing::pack;
 use records::Answer;
 use shape_faults::UNKNOWN_KIND;
-ghost use mathlib.Core.List.{[], _∷_};
 ghost use mathlib.Core.Path.{_≡_};
-ghost use Rattle.model.specs.Kind.{kindOf};
 ghost use Rattle.model.specs.Record.{readOf};
-ghost use Rattle.records.specs.Answers.{replied};
-ghost use Rattle.exports.specs.Exports.{packed, named, writeOfNumber};
-ghost use Rattle.exports.specs.Images.{firstIs};
-
-// The kind of a number.
-pub enum Numbered {
-    Kind(Kind),
-    Unknown,
-}
-
-fn kind_of(number: u8) -> Numbered
-    ensures { λ r. ⌜ named r ≡ kindOf number ⌝ }
-{
-    match number {
-        1 => Numbered::Kind(Kind::Topic),
-        2 => Numbered::Kind(Kind::Partition),
-        3 => Numbered::Kind(Kind::BrokerRegistration),
-        4 => Numbered::Kind(Kind::DeleteTopic),
-        5 => Numbered::Kind(Kind::TopicConfig),
-        6 => Numbered::Kind(Kind::BrokerConfig),
-        7 => Numbered::Kind(Kind::ClientQuota),
-        8 => Numbered::Kind(Kind::ProducerIds),
-        9 => Numbered::Kind(Kind::UnregisterBroker),
-        10 => Numbered::Kind(Kind::KRaftVersion),
-        11 => Numbered::Kind(Kind::FeatureLevel),
-        12 => Numbered::Kind(Kind::ClientMetricsConfig),
-        13 => Numbered::Kind(Kind::FeaturesEpoch),
-        14 => Numbered::Kind(Kind::PartitionDirAssignment),
-        15 => Numbered::Kind(Kind::PartitionOffsetAdvance),
-        16 => Numbered::Kind(Kind::GroupConfig),
-        17 => Numbered::Kind(Kind::ControllerRegistration),
-        18 => Numbered::Kind(Kind::TopicFreeze),
-        19 => Numbered::Kind(Kind::BreakGlassProposal),
-        20 => Numbered::Kind(Kind::DeleteBreakGlassProposal),
-        21 => Numbered::Kind(Kind::PartitionElr),
-        22 => Numbered::Kind(Kind::PartitionRecovery),
-        23 => Numbered::Kind(Kind::PartitionUpdate),
-        24 => Numbered::Kind(Kind::BrokerRegistrationChange),
-        25 => Numbered::Kind(Kind::UnregisterController),
-        0 | 26..=255 => Numbered::Unknown,
-    }
-}
-
-fn pack(answer: Answer) -> u64
-    ensures { λ r. ⌜ r ≡ packed (replied answer) ⌝ }
-{
-    match answer {
-        Answer::Used(n) => n as u64,
-        Answer::Refused(number) => number as u64 * 0x1_0000_0000,
-    }
-}
-
-// Puts a number into the first place of a list, where it has one.
-pub(crate) fn put_first(list: &mut [u64], n: u64)
-    ensures { λ _. ⌜ now (list .exit) ≡ firstIs (n ∷ []) (now (list .entry)) ⌝ }
-{
-    if list.len() > 0 {
-        list[0] = n;
-    }
-}
+ghost use Rattle.packing.specs.Packed.{packed};
+ghost use Rattle.exports.specs.Write.{writeOfNumber};
 
 // Reads the record at the start of `input`: the bytes used.
 #[no_mangle]

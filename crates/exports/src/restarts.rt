@@ -1,14 +1,13 @@
 // Snapshot, Restore and the records of a downgrade for programs in other languages.
-use crate::pack;
-use crate::put_first;
-use apply::Restored;
-use wire::wide;
+use packing::alone;
+use packing::pack;
+use packing::put_first;
+use restore::Restored;
 ghost use mathlib.Core.Path.{_≡_};
 ghost use Prim.Native.Nat.{_*_};
 ghost use Rattle.model.specs.Downgrade.{downgradeOf};
 ghost use Rattle.model.specs.Snapshot.{snapshotOf, restoreOf};
-ghost use Rattle.exports.specs.Exports.{packed};
-ghost use Rattle.exports.specs.Images.{widened};
+ghost use Rattle.packing.specs.Packed.{packed, widened};
 
 // An image's records into an output: the bytes written.
 #[no_mangle]
@@ -26,12 +25,12 @@ pub extern "C" fn jeghatuf_restore(image: &mut [u8], input: &[u8], place: &mut [
     ensures { λ _. ⌜ now (image .exit) ≡ restoreOf (now (input .entry)) (now (image .entry)) .buffer ⌝ }
     ensures { λ _. ⌜ now (place .exit) ≡ widened (restoreOf (now (input .entry)) (now (image .entry)) .reply) (now (place .entry)) ⌝ }
 {
-    match apply::restore(image, input) {
+    match restore::restore(image, input) {
         Restored::Done => 0,
-        Restored::Refused(number) => wide(number) * 0x1_0000_0000,
+        Restored::Refused(number) => alone(number),
         Restored::Stopped(number, at) => {
             put_first(place, at as u64);
-            wide(number) * 0x1_0000_0000
+            alone(number)
         }
     }
 }

@@ -3,21 +3,19 @@
 //
 //     inspect [FILE] [cut N | cut all] [at CAPACITY]
 
-mod options;
 mod run;
-mod source;
 mod verdicts;
 
-use options::Cuts;
-use options::Options;
-use options::read_options;
+use arguments::Cuts;
+use arguments::Options;
+use arguments::read_options;
 use report::exists::say_all;
 use report::ids::renamed;
-use report::text::complain;
-use report::text::say;
-use report::text::say_of;
 use run::Course;
 use run::run;
+use words::complain;
+use words::say;
+use words::say_of;
 
 // What the restarts changed: of verdicts, of snapshots, and of what the ids name at the end.
 fn say_changes(course: Course, ids: u64) {

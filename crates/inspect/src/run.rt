@@ -1,19 +1,19 @@
 // A file's records, one after the other, on two images: one as it is, and one with the restarts.
-use crate::options::Cuts;
-use crate::source::passed;
-use crate::source::refill;
-use crate::source::start;
-use crate::source::tell_progress;
 use crate::verdicts::is_same;
 use crate::verdicts::say_in_words;
 use crate::verdicts::say_record;
 use crate::verdicts::say_said;
+use arguments::Cuts;
 use report::snapshots::same_snapshots;
-use report::text::say;
-use report::text::say_of;
 use shape_faults::PAST_THE_END;
+use source::passed;
+use source::refill;
+use source::start;
+use source::tell_progress;
 use steps::cut;
 use steps::give;
+use words::say;
+use words::say_of;
 ghost use mathlib.Core.Path.{_≡_};
 ghost use Prim.Native.Nat.{_+_, _≤_, _<_};
 ghost use lib.ListN.{length};

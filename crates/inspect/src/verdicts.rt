@@ -1,11 +1,11 @@
 // What a record's step says, in words.
-use report::text::say;
-use report::text::say_number;
-use report::text::say_of;
-use report::words::say_kind;
-use report::words::say_verdict;
 use steps::Said;
 use wire::wide;
+use words::names::say_kind;
+use words::names::say_verdict;
+use words::say;
+use words::say_number;
+use words::say_of;
 
 // A number and its words.
 pub fn say_in_words(number: u8) {

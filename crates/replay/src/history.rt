@@ -3,8 +3,8 @@ use answer_lines::print_buffer;
 use answer_lines::print_next;
 use answer_lines::print_no_line;
 use answer_lines::print_written;
-use apply::Restored;
 use records::Answer;
+use restore::Restored;
 use wire::wide;
 
 // What Open and Restore find in their buffer.
@@ -68,7 +68,7 @@ fn print_restored(restored: Restored) {
 
 // Restore of any bytes.
 pub fn restore(image: &mut [u8], bytes: &[u8]) {
-    let restored = apply::restore(image, bytes);
+    let restored = restore::restore(image, bytes);
     print_restored(restored);
     print_buffer(image);
 }

@@ -1,18 +1,18 @@
 // What exists in an image: its snapshot read record by record.
 use crate::snapshots::end_of;
 use crate::snapshots::take_snapshot;
-use crate::text::OF_FOUR;
-use crate::text::OF_TWO;
-use crate::text::field_number;
-use crate::text::say;
-use crate::text::say_field;
-use crate::text::say_number;
-use crate::text::say_of;
-use crate::text::say_signed;
 use keys::value_at;
 use lookup::Rated;
 use lookup::Value;
 use model::NodeId;
+use words::OF_FOUR;
+use words::OF_TWO;
+use words::field_number;
+use words::say;
+use words::say_field;
+use words::say_number;
+use words::say_of;
+use words::say_signed;
 ghost use Prim.Native.Nat.{_≤_};
 ghost use lib.ListN.{length};
 

@@ -1,10 +1,10 @@
 // What the topics' ids name: no record of a snapshot says it.
 use crate::snapshots::end_of;
 use crate::snapshots::take_snapshot;
-use crate::text::say;
-use crate::text::say_field;
 use keys::value_at;
 use records::Answer;
+use words::say;
+use words::say_field;
 ghost use Prim.Native.Nat.{_≤_};
 ghost use lib.ListN.{length};
 

@@ -1,6 +1,4 @@
-// What the program `inspect` says: words and numbers, kinds and verdicts, what exists in an image, and where two images part.
+// What the program `inspect` says of images: what exists in one, and where two part.
 pub mod exists;
 pub mod ids;
 pub mod snapshots;
-pub mod text;
-pub mod words;

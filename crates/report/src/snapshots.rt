@@ -1,7 +1,7 @@
 // The records of an image's snapshot, and where two snapshots part.
-use crate::text::say;
-use crate::words::say_kind;
 use records::Answer;
+use words::names::say_kind;
+use words::say;
 ghost use mathlib.Core.Path.{_≡_};
 ghost use Prim.Native.Nat.{_≤_, _<_};
 ghost use lib.ListN.{length, take};

@@ -32,7 +32,7 @@ pub fn cut(image: &mut [u8], out: &mut [u8]) -> bool
 {
     match snapshot::snapshot(image, out) {
         Answer::Used(n) => {
-            apply::restore(image, &out[..n]);
+            restore::restore(image, &out[..n]);
             true
         }
         Answer::Refused(number) => false,

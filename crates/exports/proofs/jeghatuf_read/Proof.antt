@@ -1,7 +1,7 @@
 -- `exports::jeghatuf_read` meets its contract: Read's answer, packed.
 use borrow.Author.Needs.{needs}
 use mathlib.Core.Path.{ap, _∙_}
-use Rattle.exports.specs.Exports.{packed}
+use Rattle.packing.specs.Packed.{packed}
 use Rattle.exports.proofs.jeghatuf_read.Statement.{statement}
 use Rattle.exports.proofs.jeghatuf_read.Tie as tie
 

@@ -1,7 +1,8 @@
 -- `exports::jeghatuf_write` meets its contract: Write's answer and output, by the number's kind; a number of no kind is refused.
 use borrow.Author.Needs.{needs}
 use mathlib.Core.Path.{sym, ap, _∙_}
-use Rattle.exports.specs.Exports.{packed, named}
+use Rattle.packing.specs.Packed.{packed}
+use Rattle.packing.specs.Numbered.{named}
 use Rattle.exports.proofs.Numbers.{by-kind, by-none}
 use Rattle.exports.proofs.jeghatuf_write.Statement.{statement}
 use Rattle.exports.proofs.jeghatuf_write.Tie as tie

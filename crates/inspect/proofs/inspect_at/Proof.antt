@@ -10,7 +10,7 @@ use Rattle.inspect.proofs.inspect_at.Tie as tie
 use Rattle.inspect.proofs.inspect_at.Reads as reads
 use Rattle.inspect.proofs.inspect_at.Lts as lts
 use Rattle.inspect.proofs.inspect.Reads as inspect-reads
-use Rattle.report.proofs.text.complain.Reads as complain-reads
+use Rattle.words.proofs.complain.Reads as complain-reads
 
 slice-aggregate-complain : tie.Need-slice-aggregate-complain
 slice-aggregate-complain c = search needs

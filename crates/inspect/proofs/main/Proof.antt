@@ -10,8 +10,8 @@ use Rattle.inspect.proofs.main.Tie as tie
 use Rattle.inspect.proofs.main.Reads as reads
 use Rattle.inspect.proofs.main.Lts as lts
 use Rattle.inspect.proofs.inspect_path.Reads as inspect-path-reads
-use Rattle.inspect.proofs.options.read_options.Reads as read-options-reads
-use Rattle.report.proofs.text.complain.Reads as complain-reads
+use Rattle.arguments.proofs.read_options.Reads as read-options-reads
+use Rattle.words.proofs.complain.Reads as complain-reads
 use Rattle.io.proofs.buffer.Reads as buffer-reads
 
 buffer-requires : tie.Need-buffer-requires

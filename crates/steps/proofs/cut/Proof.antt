@@ -9,7 +9,7 @@ use Rattle.steps.proofs.cut.Statement.{statement}
 use Rattle.steps.proofs.cut.Tie as tie
 use Rattle.steps.proofs.cut.Reads as reads
 use Rattle.steps.proofs.cut.Lts as lts
-use Rattle.apply.proofs.restore.Reads as restore-reads
+use Rattle.restore.proofs.restore.Reads as restore-reads
 use Rattle.snapshot.proofs.snapshot.Reads as snapshot-reads
 
 snapshot-requires : tie.Need-snapshot-requires

@@ -16,11 +16,8 @@ put-first-requires c κs = search needs
 enum-known-number : tie.Need-enum-known-number
 enum-known-number c = search needs
 
-wide-requires : tie.Need-wide-requires
-wide-requires c κs = search needs
-
-mul-result : tie.Need-mul-result
-mul-result c = search needs
+alone-requires : tie.Need-alone-requires
+alone-requires c κs = search needs
 
 same-length : tie.Need-same-length
 same-length c = search needs
@@ -29,7 +26,7 @@ returns : tie.Need-returns
 returns c = wide-value (c .before .before .before .before .before .before .before .features-epoch .ensures) (c .before .before .before .before .before .n .given .1) _ (c .before .before .put-first .ensures)
 
 returns-2 : tie.Need-returns-2
-returns-2 c = wide-refused (c .before .before .before .before .features-epoch .ensures) (c .before .before .number .given .1) (c .wide .ensures) _
+returns-2 c = wide-refused (c .before .before .before .before .features-epoch .ensures) (c .before .before .number .given .1) (c .alone .ensures) _
 
 pub jeghatuf-features-epoch-spec : {M : Type 1} → statement M
 jeghatuf-features-epoch-spec =
@@ -39,8 +36,7 @@ jeghatuf-features-epoch-spec =
     enum-known-n
     put-first-requires
     enum-known-number
-    wide-requires
-    mul-result
+    alone-requires
     same-length
     returns
     returns-2)

@@ -13,17 +13,14 @@ enum-known-n c = search needs
 enum-known-number : tie.Need-enum-known-number
 enum-known-number c = search needs
 
-wide-requires : tie.Need-wide-requires
-wide-requires c κs = search needs
-
-mul-result : tie.Need-mul-result
-mul-result c = search needs
+alone-requires : tie.Need-alone-requires
+alone-requires c κs = search needs
 
 returns : tie.Need-returns
 returns c = packed-value (c .before .before .before .short-count .ensures) (c .before .n .given .1)
 
 returns-2 : tie.Need-returns-2
-returns-2 c = packed-refused (c .before .before .before .before .short-count .ensures) (c .before .before .number .given .1) (c .wide .ensures)
+returns-2 c = packed-refused (c .before .before .before .before .short-count .ensures) (c .before .before .number .given .1) (c .alone .ensures)
 
 pub jeghatuf-short-count-spec : {M : Type 1} → statement M
 jeghatuf-short-count-spec =
@@ -32,7 +29,6 @@ jeghatuf-short-count-spec =
     short-count-requires
     enum-known-n
     enum-known-number
-    wide-requires
-    mul-result
+    alone-requires
     returns
     returns-2)

@@ -19,11 +19,8 @@ enum-told c = search needs
 enum-known-number : tie.Need-enum-known-number
 enum-known-number c = search needs
 
-wide-requires : tie.Need-wide-requires
-wide-requires c κs = search needs
-
-mul-result : tie.Need-mul-result
-mul-result c = search needs
+alone-requires : tie.Need-alone-requires
+alone-requires c κs = search needs
 
 same-length : tie.Need-same-length
 same-length c = search needs
@@ -35,7 +32,7 @@ returns-2 : tie.Need-returns-2
 returns-2 c = rate-none (c .before .before .throttle .ensures) (c .enum-told .given .1) _
 
 returns-3 : tie.Need-returns-3
-returns-3 c = rate-refused (c .before .before .before .before .throttle .ensures) (c .before .before .number .given .1) (c .wide .ensures) _
+returns-3 c = rate-refused (c .before .before .before .before .throttle .ensures) (c .before .before .number .given .1) (c .alone .ensures) _
 
 pub jeghatuf-throttle-spec : {M : Type 1} → statement M
 jeghatuf-throttle-spec =
@@ -46,8 +43,7 @@ jeghatuf-throttle-spec =
     put-first-requires
     enum-told
     enum-known-number
-    wide-requires
-    mul-result
+    alone-requires
     same-length
     returns
     returns-2

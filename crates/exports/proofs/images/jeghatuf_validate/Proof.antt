@@ -7,14 +7,11 @@ use Rattle.exports.proofs.images.jeghatuf_validate.Tie as tie
 validate-requires : tie.Need-validate-requires
 validate-requires c κs = search needs
 
-wide-requires : tie.Need-wide-requires
-wide-requires c κs = search needs
-
-mul-result : tie.Need-mul-result
-mul-result c = search needs
+alone-requires : tie.Need-alone-requires
+alone-requires c κs = search needs
 
 returns : tie.Need-returns
-returns c = packed-number (c .wide .ensures) (c .before .validate .ensures)
+returns c = packed-number (c .alone .ensures) (c .before .validate .ensures)
 
 pub jeghatuf-validate-spec : {M : Type 1} → statement M
-jeghatuf-validate-spec = tie.close (tie.spec validate-requires wide-requires mul-result returns)
+jeghatuf-validate-spec = tie.close (tie.spec validate-requires alone-requires returns)

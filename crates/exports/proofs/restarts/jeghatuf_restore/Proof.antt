@@ -13,11 +13,8 @@ enum-told c = search needs
 enum-known-number : tie.Need-enum-known-number
 enum-known-number c = search needs
 
-wide-requires : tie.Need-wide-requires
-wide-requires c κs = search needs
-
-mul-result : tie.Need-mul-result
-mul-result c = search needs
+alone-requires : tie.Need-alone-requires
+alone-requires c κs = search needs
 
 enum-known-number-2 : tie.Need-enum-known-number-2
 enum-known-number-2 c = search needs
@@ -25,11 +22,8 @@ enum-known-number-2 c = search needs
 put-first-requires : tie.Need-put-first-requires
 put-first-requires c κs = search needs
 
-wide-requires-2 : tie.Need-wide-requires-2
-wide-requires-2 c κs = search needs
-
-mul-result-2 : tie.Need-mul-result-2
-mul-result-2 c = search needs
+alone-requires-2 : tie.Need-alone-requires-2
+alone-requires-2 c κs = search needs
 
 same-length : tie.Need-same-length
 same-length c = search needs
@@ -46,7 +40,7 @@ same-length-2 c = search needs
 returns-2 : tie.Need-returns-2
 returns-2 c =
     let e = c .before .before .before .before .before .before .restore .ensures in
-    let p = restore-refused (e .0) (c .before .before .number .given .1) (c .wide .ensures) _ in
+    let p = restore-refused (e .0) (c .before .before .number .given .1) (c .alone .ensures) _ in
     (p .0, (e .1, p .1))
 
 same-length-3 : tie.Need-same-length-3
@@ -58,7 +52,7 @@ same-length-4 c = search needs
 returns-3 : tie.Need-returns-3
 returns-3 c =
     let e = c .before .before .before .before .before .before .before .before .before .before .restore .ensures in
-    let p = restore-stopped (e .0) (c .before .before .before .before .before .before .number2 .given .1) (c .wide2 .ensures) _ (c .before .before .before .put-first .ensures) in
+    let p = restore-stopped (e .0) (c .before .before .before .before .before .before .number2 .given .1) (c .alone2 .ensures) _ (c .before .before .before .put-first .ensures) in
     (p .0, (e .1, p .1))
 
 pub jeghatuf-restore-spec : {M : Type 1} → statement M
@@ -68,12 +62,10 @@ jeghatuf-restore-spec =
     restore-requires
     enum-told
     enum-known-number
-    wide-requires
-    mul-result
+    alone-requires
     enum-known-number-2
     put-first-requires
-    wide-requires-2
-    mul-result-2
+    alone-requires-2
     same-length
     returns
     same-length-2

@@ -11,7 +11,7 @@ use Rattle.report.proofs.exists.say_partitions.Reads as reads
 use Rattle.report.proofs.exists.say_partitions.Lts as lts
 use Rattle.report.proofs.exists.is_partition_of.Reads as is-partition-of-reads
 use Rattle.report.proofs.snapshots.end_of.Reads as end-of-reads
-use Rattle.report.proofs.text.say_signed.Reads as say-signed-reads
+use Rattle.words.proofs.say_signed.Reads as say-signed-reads
 
 abbrev Inv-loop : tie.InvT-loop
 Inv-loop records topic at₀ t5 at = at ≤ length records

@@ -11,8 +11,8 @@ use Rattle.report.proofs.ids.count_renamed.Reads as reads
 use Rattle.report.proofs.ids.count_renamed.Lts as lts
 use Rattle.report.proofs.ids.is_renamed.Reads as is-renamed-reads
 use Rattle.report.proofs.snapshots.end_of.Reads as end-of-reads
-use Rattle.report.proofs.text.say.Reads as say-reads
-use Rattle.report.proofs.text.say_field.Reads as say-field-reads
+use Rattle.words.proofs.say.Reads as say-reads
+use Rattle.words.proofs.say_field.Reads as say-field-reads
 
 abbrev Inv-loop : tie.InvT-loop
 Inv-loop plain other records count₀ at₀ t7 t8 count at = (at ≤ length records) × (count ≤ at)

@@ -1,0 +1,4 @@
+pub mod Light
+pub mod Advance
+pub mod Loaded
+pub mod Stepping

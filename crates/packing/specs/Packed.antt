@@ -1,0 +1,25 @@
+-- A reply in one number, and a value that is too wide for that: it goes to the first place of a lent list.
+use mathlib.Core.List.{List, [], _∷_}
+use Prim.Native.Nat.{ℕ, _+_, _*_}
+use lib.ListN.{length}
+use Rattle.model.specs.Reply.{Reply}
+
+-- the value that comes with a number, 0 where none does
+abbrev pub first : List ℕ → ℕ
+first [] = 0
+first (n ∷ ns) = n
+
+abbrev pub packed : Reply → ℕ
+packed r = r .number * 4294967296 + first (r .values)
+
+abbrev pub firstIs : List ℕ → List ℕ → List ℕ
+firstIs [] l = l
+firstIs (v ∷ vs) [] = []
+firstIs (v ∷ vs) (x ∷ l) = v ∷ l
+
+abbrev pub widened : Reply → List ℕ → List ℕ
+widened r l = firstIs (r .values) l
+
+-- how many values come with a number, where there may be none
+abbrev pub counted : Reply → ℕ
+counted r = r .number * 4294967296 + length (r .values)

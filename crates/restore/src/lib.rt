@@ -1,0 +1,147 @@
+// Restore: the image of some records, from nothing.
+use attempt::State;
+use attempt::Tried;
+use attempt::step;
+use header::NO_EPOCH;
+use header::NO_IMAGE;
+use header::is_capacity;
+use lay::lay;
+use rebuild::rebuild;
+use records::Answer;
+use records::read;
+use work::Room;
+ghost use mathlib.Core.Path.{_≡_};
+ghost use mathlib.Core.Bool.{true};
+ghost use Prim.Native.Nat.{_≤_};
+ghost use lib.ListN.{length};
+ghost use Rattle.model.specs.Image.{isCapacity, imageOf};
+ghost use Rattle.model.specs.Snapshot.{restoreOf};
+ghost use Rattle.drafts.specs.Drafts.{draftRoom};
+ghost use Rattle.attempt.specs.Step.{workRoom, Holding};
+ghost use Rattle.restore.specs.Restore.{NextIs, RanAs, Whole, wholeContents, restored};
+
+// What the first of some records comes to: the state after it and how many bytes it has; Read's refusal, which leaves the work array as it was; or
+// Apply's.
+enum Next {
+    Moved(State, usize),
+    Unread(u8),
+    Refused(u8),
+}
+
+// Applies the first record of an input.
+fn next_record(
+    w: &mut [u8],
+    a: &mut [u8],
+    b: &mut [u8],
+    state: State,
+    capacity: usize,
+    input: &[u8],
+) -> Next
+    requires { ⌜ Holding (now w) state capacity × (length (now w) ≡ workRoom) × (draftRoom ≤ length (now a)) × (draftRoom ≤ length (now b)) ⌝ }
+    ensures { λ r. ⌜ NextIs (now (w .entry)) state capacity (now (input .entry)) (now (w .exit)) r ⌝ }
+{
+    match read(input) {
+        Answer::Refused(number) => Next::Unread(number),
+        Answer::Used(n) => match step(w, a, b, state, capacity, &input[..n]) {
+            Tried::Refused(number) => Next::Refused(number),
+            Tried::Moved(s) => Next::Moved(s, n),
+        },
+    }
+}
+
+// What a run over records comes to: the state after all; the place that Read refuses, and the state before it; or the place that Apply refuses, after
+// which the work array is of no use.
+enum Ran {
+    Done(State),
+    Unread(u8, usize, State),
+    Refused(u8, usize),
+}
+
+// Applies records to a fresh state, up to the end or to the first refusal.
+fn run(w: &mut [u8], a: &mut [u8], b: &mut [u8], capacity: usize, input: &[u8]) -> Ran
+    requires { ⌜ (isCapacity capacity ≡ true) × (length (now w) ≡ workRoom) × (draftRoom ≤ length (now a)) × (draftRoom ≤ length (now b)) ⌝ }
+    ensures { λ r. ⌜ RanAs capacity (now (input .entry)) (now (w .exit)) r ⌝ }
+{
+    let mut state = State {
+        room: Room { mid: 0, used: 0 },
+        epoch: NO_EPOCH,
+        kraft: 0,
+    };
+    let mut at = 0;
+    while at < input.len() {
+        match next_record(w, a, b, state, capacity, &input[at..]) {
+            Next::Moved(s, n) => {
+                state = s;
+                at = at + n;
+            }
+            Next::Unread(number) => {
+                return Ran::Unread(number, at, state);
+            }
+            Next::Refused(number) => {
+                return Ran::Refused(number, at);
+            }
+        }
+    }
+    Ran::Done(state)
+}
+
+// Lays out the image of records that are all applied: a run over them has no other end.
+fn lay_whole(image: &mut [u8], w: &mut [u8], a: &mut [u8], b: &mut [u8], input: &[u8])
+    requires { ⌜ Whole (length (now image)) (now input) × (isCapacity (length (now image)) ≡ true) × (length (now w) ≡ workRoom) × (draftRoom ≤ length (now a)) × (draftRoom ≤ length (now b)) ⌝ }
+    ensures { λ _. ⌜ now (image .exit) ≡ imageOf (length (now (image .entry))) (wholeContents (length (now (image .entry))) (now (input .entry))) ⌝ }
+{
+    match run(w, a, b, image.len(), input) {
+        Ran::Done(s) => {
+            lay(image, w, s.room, s.epoch, s.kraft);
+        }
+        Ran::Unread(number, at, s) => {}
+        Ran::Refused(number, at) => {}
+    }
+}
+
+// Done, a refusal, or a record's refusal with the place of its first byte.
+pub enum Restored {
+    Done,
+    Refused(u8),
+    Stopped(u8, usize),
+}
+
+// Restore, record by record.
+fn restore_each(image: &mut [u8], w: &mut [u8], input: &[u8]) -> Restored
+    requires { ⌜ (isCapacity (length (now image)) ≡ true) × (length (now w) ≡ workRoom) ⌝ }
+    ensures { λ r. ⌜ restored r ≡ restoreOf (now (input .entry)) (now (image .entry)) .reply ⌝ }
+    ensures { λ _. ⌜ now (image .exit) ≡ restoreOf (now (input .entry)) (now (image .entry)) .buffer ⌝ }
+{
+    let mut a = [0; 40960];
+    let mut b = [0; 40960];
+    match run(w, &mut a, &mut b, image.len(), input) {
+        Ran::Done(s) => {
+            lay(image, w, s.room, s.epoch, s.kraft);
+            Restored::Done
+        }
+        Ran::Unread(number, at, s) => {
+            lay(image, w, s.room, s.epoch, s.kraft);
+            Restored::Stopped(number, at)
+        }
+        Ran::Refused(number, at) => {
+            lay_whole(image, w, &mut a, &mut b, &input[..at]);
+            Restored::Stopped(number, at)
+        }
+    }
+}
+
+// Makes a buffer the image of some records, whatever it held. A record's refusal leaves the image of those before it; a capacity's changes nothing. What is
+// the snapshot of an image that a restore leaves as it is, as most are, is copied.
+pub fn restore(image: &mut [u8], input: &[u8]) -> Restored
+    ensures { λ r. ⌜ restored r ≡ restoreOf (now (input .entry)) (now (image .entry)) .reply ⌝ }
+    ensures { λ _. ⌜ now (image .exit) ≡ restoreOf (now (input .entry)) (now (image .entry)) .buffer ⌝ }
+{
+    if !is_capacity(image.len()) {
+        return Restored::Refused(NO_IMAGE);
+    }
+    let mut w = [0; 167936];
+    if rebuild(image, &mut w, input) {
+        return Restored::Done;
+    }
+    restore_each(image, &mut w, input)
+}

@@ -1,0 +1,86 @@
+// Words and numbers on standard output, kinds and verdicts in words, and what went wrong on standard error.
+pub mod names;
+
+use keys::value_at;
+use libc::STDERR_FILENO;
+use libc::STDOUT_FILENO;
+
+pub fn say(words: &[u8]) {
+    io::write_all(STDOUT_FILENO, words);
+}
+
+pub fn say_number(n: u64) {
+    io::print_decimal(STDOUT_FILENO, n);
+}
+
+// A word, and a number behind it.
+pub fn say_of(words: &[u8], n: u64) {
+    say(words);
+    say_number(n);
+}
+
+// A name as it stands, but for its control bytes: a name cannot make a line of its own.
+fn say_name(name: &[u8]) {
+    let mut i = 0;
+    while i < name.len() {
+        let end = i + 1;
+        if name[i] < 32 || name[i] == 127 {
+            say(b"?");
+        } else {
+            say(&name[i..end]);
+        }
+        i = end;
+    }
+}
+
+// The name in a record's field, none where it is not there.
+pub fn say_field(rec: &[u8], tag: usize) {
+    if rec.len() < 3 {
+        return;
+    }
+    let p = value_at(rec, tag);
+    let start = p.start;
+    let end = p.end;
+    say_name(&rec[start..end]);
+}
+
+// The number that a field of at most eight bytes spells, 0 where there is none.
+pub fn field_number(rec: &[u8], tag: usize) -> u64 {
+    if rec.len() < 3 {
+        return 0;
+    }
+    let p = value_at(rec, tag);
+    let width = p.end - p.start;
+    if 8 < width {
+        return 0;
+    }
+    wire::get(rec, p.start, width)
+}
+
+// How many numbers a signed field of two bytes has, and one of four.
+pub const OF_TWO: u64 = 0x1_0000;
+
+pub const OF_FOUR: u64 = 0x1_0000_0000;
+
+// A word, and the signed number behind it that a field spells.
+pub fn say_signed(words: &[u8], rec: &[u8], tag: usize, numbers: u64) {
+    let n = field_number(rec, tag);
+    say(words);
+    if n < numbers / 2 {
+        say_number(n);
+        return;
+    }
+    if numbers < n {
+        say_number(n);
+        return;
+    }
+    say(b"-");
+    say_number(numbers - n);
+}
+
+// A line on standard error.
+pub fn complain(words: &[u8]) {
+    io::write_all(STDERR_FILENO, b"inspect: ");
+    io::write_all(STDERR_FILENO, words);
+    io::write_all(STDERR_FILENO, b"\n");
+}
