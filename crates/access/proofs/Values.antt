@@ -12,15 +12,11 @@ use Rattle.laws.specs.Choice.{cond-same}
 use Rattle.fields.specs.Fields.{held, Within}
 use Rattle.fields.specs.declared.Found.{Found}
 use Rattle.fields.specs.declared.Found.the-variants.{Part, Missing}
+use Rattle.fields.proofs.Took.{within-part}
 use Rattle.access.specs.Access.{recordField, numberOf, fieldNumber, numberIn}
 use Rattle.access.proofs.Body.{field-cut}
 
 -- 1. By the field
-
--- a part lies within the bytes
-pub within-part : {to : ℕ} {r : Found} {start len : ℕ} → r ≡ Part start len → Within to r → start + len ≤ to
-unfolding Within
-within-part {to} {r} {start} {len} h w = let q : Within to (Part start len) = rw h at w in q
 
 pub within-more : {to more : ℕ} (r : Found) → to ≤ more → Within to r → Within more r
 unfolding Within

@@ -15,7 +15,8 @@ use Rattle.model.specs.Apply.{Applied, stays, becomes, apply, laid, applyOf}
 use Rattle.laws_apply.specs.Apply.{apply-no-image, apply-unread, apply-read}
 use Rattle.header.specs.Header.{numbered}
 use Rattle.judge.specs.Judge.{loggedIn}
-use Rattle.validate.proofs.Verdicts.{it, logged-is as read-is, refused-bad}
+use Rattle.validate.proofs.Verdicts.{it, logged-is as read-is}
+use Rattle.records.proofs.Replies.{refused-bad}
 
 -- 1. What is laid out
 

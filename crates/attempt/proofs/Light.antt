@@ -1,20 +1,19 @@
 -- What a work array's contents weigh, by the bytes that they take.
 use mathlib.Core.Path.{_≡_, refl, sym, ap, _∙_}
 use mathlib.Core.Bool.{Bool, true, false}
-use mathlib.Core.List.{map}
 use mathlib.Core.Option.{Option, none, some}
 use Prim.Native.Nat.{ℕ, _+_, _*_, _-_, _≤_}
 use native.Mathlib.Omega.{arith}
 use lib.Dec.{leb}
-use lib.ListN.{length, take}
+use lib.ListN.{length}
 use lib.Seq.{length-take-le}
 use Rattle.model.specs.Choice.{isSome}
 use Rattle.model.specs.Number.{Bytes, AreBytes}
 use Rattle.model.specs.Record.{Rec}
 use Rattle.model.specs.Key.{producerKey}
 use Rattle.model.specs.Map.{get}
-use Rattle.model.specs.Contents.{Entry, key, recordKey, Fixed, fixedRoom, weight}
-use Rattle.model.specs.Image.{entryOf, headSize, entryBytes, used}
+use Rattle.model.specs.Contents.{key, recordKey, Fixed, fixedRoom, weight}
+use Rattle.model.specs.Image.{entryOf, headSize, used}
 use Rattle.laws.specs.Choice.{over, present, impossible}
 use Rattle.laws.specs.Map.{Asc, get-map}
 use Rattle.laws_image.specs.Entries.{entry-key}

@@ -1,22 +1,17 @@
 -- A record's step on a work array: what its moves ask for, what they make, and its outcome.
 use mathlib.Core.Path.{_≡_, refl, sym, ap, ap₂, _∙_, subst}
-use mathlib.Core.Bool.{Bool, true, false, not, cond}
-use mathlib.Core.List.{List, map}
-use Prim.Native.Nat.{ℕ, _+_, _*_, _≤_, _<_}
+use mathlib.Core.Bool.{Bool, true, false, not}
+use Prim.Native.Nat.{ℕ, _+_, _*_, _≤_}
 use native.Mathlib.Omega.{arith}
 use borrow.Author.Tests.{leb-true, not-true, not-false}
-use lib.Dec.{leb, eqb}
+use lib.Dec.{leb}
 use lib.ListN.{length, drop}
-use Rattle.model.specs.Number.{Bytes, AreBytes, span}
-use Rattle.model.specs.Kind.{kindNumber}
+use Rattle.model.specs.Number.{Bytes, AreBytes}
 use Rattle.model.specs.Shape.{logged, fault}
-use Rattle.model.specs.Record.{Rec}
-use Rattle.model.specs.Key.{topicKey}
-use Rattle.model.specs.Map.{get}
 use Rattle.model.specs.Contents.{Entry, topic, part, plain, key, Fixed, Contents, partitions, weight}
-use Rattle.model.specs.Image.{headSize, mostCapacity}
-use Rattle.model.specs.Move.{countOf, plan, moves, moved, overflows}
-use Rattle.model.specs.Apply.{Applied, stays, becomes, apply}
+use Rattle.model.specs.Image.{mostCapacity}
+use Rattle.model.specs.Move.{countOf, plan, moved, overflows}
+use Rattle.model.specs.Apply.{stays, becomes, apply}
 use Rattle.laws.specs.Lists.{All, In, all-in}
 use Rattle.laws.specs.Map.{Asc, in-get}
 use Rattle.laws.specs.Numbers.{drop-are-bytes}
@@ -25,14 +20,13 @@ use Rattle.laws_image.specs.Tests.{capacity-most}
 use Rattle.laws_restore.specs.Weight.{partitions-total}
 use Rattle.laws_apply.specs.Moves.{Holds}
 use Rattle.laws_apply.specs.MovedFits.{moved-holds}
-use Rattle.keys.specs.Keys.{runIn}
 use Rattle.header.specs.Header.{fixedOf}
 use Rattle.judge.specs.Judge.{IsLogged, loggedIn}
 use Rattle.judge.proofs.Logged.{run-in, passes}
 use Rattle.patches.specs.Patches.{CountFits}
 use Rattle.fixed_parts.specs.Fixed.{epochAfter, kraftAfter}
 use Rattle.fixed_parts.proofs.Moved.{moved-fixed}
-use Rattle.work.specs.Work.{groupsIn, Good, heldIn, contentsIn, mostRecord, Made}
+use Rattle.work.specs.Work.{heldIn, contentsIn, mostRecord, Made}
 use Rattle.work.specs.declared.Room.{Room}
 use Rattle.attempt.specs.Step.{workRoom, stateIn, Holding}
 use Rattle.attempt.specs.declared.State.{State}

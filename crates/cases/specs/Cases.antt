@@ -1,11 +1,11 @@
 -- M1 to M10 of 01's "Checked by hand": one table, one theorem. The rows are about the operations' functions on bytes, and they compute.
 use mathlib.Core.Path.{_≡_, refl}
-use Prim.Native.Nat.{ℕ, zero, suc, _+_, _-_, _^_}
+use Prim.Native.Nat.{ℕ, _+_, _-_, _^_}
 use mathlib.Core.List.{List, [], _∷_, _++_}
 use lib.ListN.{length, take, replicate}
 use Rattle.model.specs.Number.{Bytes, number, bytes}
 use Rattle.model.specs.Run as Run
-use Rattle.model.specs.Run.{done, item, runOf, value}
+use Rattle.model.specs.Run.{done, item, value}
 use Rattle.model.specs.Choice as Choice
 use Rattle.model.specs.Text as Text
 use Rattle.model.specs.Order as Order
@@ -23,7 +23,7 @@ use Rattle.model.specs.Validate as Validate
 use Rattle.model.specs.Apply as Apply
 use Rattle.model.specs.Snapshot as Snapshot
 use Rattle.model.specs.Lookup as Lookup
-use Rattle.model.specs.declared.Kind.the-variants.{Topic, Partition, ProducerIds, FeatureLevel, PartitionDirAssignment, PartitionOffsetAdvance, TopicFreeze}
+use Rattle.model.specs.declared.Kind.the-variants.{Topic, Partition, ProducerIds, PartitionDirAssignment, PartitionOffsetAdvance, TopicFreeze}
 
 -- 1. Inputs
 

@@ -16,7 +16,7 @@ use Rattle.laws.specs.Order.{Lt}
 use Rattle.laws.specs.Lists.{All, all-any, all-imp, all-both}
 use Rattle.laws.specs.Map.{Asc, ascending-asc}
 use Rattle.keys.specs.Keys.{runIn}
-use Rattle.keys.proofs.Found.{lent-slice, slice-rest}
+use Rattle.keys.proofs.Found.{rest-lent}
 use Rattle.entries.specs.Entries.{recordsIn, Entries}
 use Rattle.entries.specs.declared.Cursor.{Cursor}
 use Rattle.entries.proofs.Seeks.{no-records}
@@ -54,13 +54,9 @@ pub merged-end : {s : Bytes} {at from : ℕ} → Merged s at from → length s �
 merged-end {s} {at} h past =
     ap (every (countFits (recordsIn s))) (sym (no-records (drop at s) (drop-of-length-le s past))) ∙ h .same
 
--- the rest as it is lent
-pub rest-lent : (s : Bytes) (from : ℕ) → from ≤ length s → take (length s - from) (drop from s) ≡ drop from s
-rest-lent s from h = lent-slice s from (length s) h ∙ slice-rest from s
-
 pub left-lent : {s : Bytes} {at from : ℕ} → Merged s at from
     → Entries (take (length s - from) (drop from s)) × (ascending recordKey (recordsIn (take (length s - from) (drop from s))) ≡ true)
-left-lent {s} {at} {from} h = rw (rest-lent s from (h .far)) (h .left, h .left-ascends)
+left-lent {s} {at} {from} h = rw (rest-lent from s) (h .left, h .left-ascends)
 
 -- a turn: the step from the topics' place found an entry
 module _ {s : Bytes} {at from start end : ℕ} {next : Cursor} (h : Merged s at from) (t : Stands s at start end next) where
@@ -105,7 +101,7 @@ module _ {s : Bytes} {at from start end : ℕ} {next : Cursor} (h : Merged s at 
 
     counted : Counted (drop from s) (value 1 (t .entry .entry .run)) n to
     counted =
-        subst (λ x. Counted x (value 1 (t .entry .entry .run)) n to) (rest-lent s from (h .far))
+        subst (λ x. Counted x (value 1 (t .entry .entry .run)) n to) (rest-lent from s)
         (subst (λ x. Counted (take (length s - from) (drop from s)) (value 1 x) n to) (run-here t) c)
 
     pub number-is : n ≡ count recordKey (ofTopic (value 1 (t .entry .entry .run))) (recordsIn s)

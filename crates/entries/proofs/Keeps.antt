@@ -13,7 +13,7 @@ use Rattle.model.specs.Map.{keep}
 use Rattle.model.specs.Contents.{recordKey}
 use Rattle.laws.specs.Numbers.{append-are-bytes, take-are-bytes, drop-are-bytes}
 use Rattle.keys.specs.Keys.{keyIn, Keyed}
-use Rattle.keys.proofs.Found.{lent-slice}
+use Rattle.keys.proofs.Found.{lent-slice, slice-again}
 use Rattle.entries.specs.Entries.{recordsIn, spelt, Entries, Changed}
 use Rattle.entries.specs.declared.Cursor.{Cursor}
 use Rattle.entries.proofs.Records.{record-key}
@@ -63,10 +63,6 @@ keep-false test r l h = rw h
 keep-none : (test : Key → Bool) (l : List Rec) → l ≡ [] → keep recordKey test l ≡ []
 unfolding keep
 keep-none test l e = rw e
-
--- a part of a part
-slice-again : (s t : Bytes) (from to : ℕ) → from ≤ to → drop from s ≡ drop from t → slice from to s ≡ slice from to t
-slice-again s t from to h e = sym (lent-slice s from to h) ∙ ap (take (to - from)) e ∙ lent-slice t from to h
 
 -- the part that is walked is whole
 whole : {test : Key → Bool} {w₀ w : Bytes} {from to at top : ℕ} → to ≤ length w₀ → Kept test w₀ w from to at top → length (take to w) ≡ to

@@ -1,6 +1,6 @@
 -- The fields of a part of a slice, from a place on: none, a torn one, or a whole one and the rest.
-use mathlib.Core.Path.{_≡_, refl, sym, ap, _∙_}
-use mathlib.Core.List.{List, [], _∷_}
+use mathlib.Core.Path.{_≡_, refl, sym, _∙_}
+use mathlib.Core.List.{[], _∷_}
 use mathlib.Core.Bool.{cond}
 use Prim.Native.Nat.{ℕ, zero, suc, _+_, _*_, _-_, _≤_, _<_}
 use native.Mathlib.Nat.{not-suc-le-zero, zero-add, suc-add}
@@ -10,7 +10,7 @@ use lib.Dec.{leb}
 use lib.ListN.{length, getD, take, drop}
 use lib.Seq.{slice, slice-empty, length-slice, drop-drop, take-take, take-nil}
 use Rattle.model.specs.Number.{Bytes, number}
-use Rattle.model.specs.Run.{Run, done, torn, item, parse, runOf}
+use Rattle.model.specs.Run.{done, torn, item, parse, runOf}
 use Rattle.laws_records.specs.Runs.{parse-skip}
 use Rattle.wire.proofs.Numbers.{slice-step, number-pair}
 

@@ -1,13 +1,15 @@
--- What a caller of `next` learns, by the variant.
-use mathlib.Core.Path.{_≡_, refl, sym, ap, _∙_}
-use mathlib.Core.Option.{Option, none, some}
+-- What a caller of `next` learns, by the variant; and where the part lies that `field` found.
+use mathlib.Core.Path.{_≡_, sym, _∙_}
+use mathlib.Core.Option.{some}
 use Prim.Native.Nat.{ℕ, _+_, _≤_, _<_}
 use borrow.Author.Tests.{eq-eqb, ne-eqb}
 use lib.Seq.{slice}
 use Rattle.model.specs.Number.{Bytes}
 use Rattle.model.specs.Run.{Run, done, torn, item, field}
-use Rattle.fields.specs.Fields.{fieldsFrom, told, Onward}
+use Rattle.fields.specs.Fields.{fieldsFrom, told, Onward, Within}
 use Rattle.fields.specs.declared.Cursor.{Cursor}
+use Rattle.fields.specs.declared.Found.{Found}
+use Rattle.fields.specs.declared.Found.the-variants.{Part}
 use Rattle.fields.specs.declared.Step.{Step}
 use Rattle.fields.specs.declared.Step.the-variants.{Field, Torn, End}
 
@@ -48,3 +50,8 @@ field-hit tag t u v r p e f g = rw (e, ← f, eq-eqb _ _ g)
 pub field-miss : (tag t u : ℕ) (v : Bytes) (r p : Run) → p ≡ item u v r → t ≡ u → (t ≡ tag → ⊥) → field tag r ≡ field tag p
 unfolding field
 field-miss tag t u v r p e f g = rw (e, ← f, ne-eqb _ _ g)
+
+-- a part lies within the bytes
+pub within-part : {to : ℕ} {r : Found} {start len : ℕ} → r ≡ Part start len → Within to r → start + len ≤ to
+unfolding Within
+within-part {to} {r} {start} {len} h w = let q : Within to (Part start len) = rw h at w in q

@@ -1,8 +1,8 @@
 -- The probe of a query, and what its place among entries gives.
 use mathlib.Core.Path.{_≡_, refl, sym, ap, _∙_, subst}
 use mathlib.Core.Bool.{Bool, true, false, cond}
-use mathlib.Core.List.{List, [], _∷_, _++_, map, append-nil}
-use mathlib.Core.Option.{Option, none, some}
+use mathlib.Core.List.{[], _∷_, append-nil}
+use mathlib.Core.Option.{some}
 use Prim.Native.Nat.{ℕ, suc, _+_, _-_, _≤_, _<_}
 use native.Mathlib.Omega.{arith}
 use borrow.Author.Tests.{eq-eqb, le-leb, lt-ltb, le-ltb}
@@ -16,7 +16,7 @@ use Rattle.model.specs.Order.{Key}
 use Rattle.model.specs.Run.{Run, done, torn, item, field, value, orEmpty, bytesOf}
 use Rattle.model.specs.Kind.{kindNumber}
 use Rattle.model.specs.Shape.{stored, fault, rowsOf, shapeOf}
-use Rattle.model.specs.Record.{Rec, rec, recordBytes}
+use Rattle.model.specs.Record.{recordBytes}
 use Rattle.model.specs.Map.{get}
 use Rattle.model.specs.Contents.{key, kept, shown, recordKey}
 use Rattle.model.specs.Image.{entryOf}
@@ -26,7 +26,7 @@ use Rattle.model.specs.Lookup.{found}
 use Rattle.model.specs.declared.Kind.{Kind}
 use Rattle.model.specs.declared.Kind.the-variants.{Topic}
 use Rattle.laws.specs.Choice.{over}
-use Rattle.laws.specs.Lists.{All, in-all}
+use Rattle.laws.specs.Lists.{in-all}
 use Rattle.laws.specs.Map.{get-map, get-in}
 use Rattle.laws_records.specs.Runs.{length-item}
 use Rattle.laws_records.specs.Faults.{fault-value}
@@ -104,7 +104,7 @@ entire e i =
 
 -- 3. The entry at a place, into an output
 
-emit-nothing : (out : Bytes) → (accepted (0 ∷ []) ≡ emit [] out .reply) × (out ≡ emit [] out .buffer)
+pub emit-nothing : (out : Bytes) → (accepted (0 ∷ []) ≡ emit [] out .reply) × (out ≡ emit [] out .buffer)
 unfolding emit emitBytes
 emit-nothing out = rw (le-leb 0 (length out) (omega arith)) (refl, refl)
 

@@ -5,7 +5,7 @@ use mathlib.Core.Option.{Option, none, some}
 use Prim.Native.Nat.{ℕ, suc, _+_, _-_, _≤_, _<_}
 use native.Mathlib.Omega.{arith}
 use lib.ListN.{length, take, drop, length-drop}
-use lib.Seq.{drop-drop, take-all, length-take-le}
+use lib.Seq.{drop-drop, length-take-le}
 use Rattle.model.specs.Choice.{given}
 use Rattle.model.specs.Number.{Bytes, AreBytes}
 use Rattle.model.specs.Order.{Key}
@@ -25,6 +25,7 @@ use Rattle.entries.specs.Entries.{recordsIn, Entries, Placed}
 use Rattle.entries.specs.declared.Place.{Place}
 use Rattle.entries.proofs.Parts.{entries-pass}
 use Rattle.found.specs.Found.{queryKey, AllKept, recordAt}
+use Rattle.keys.proofs.Found.{rest-lent}
 use Rattle.freezes.specs.Freezes.{frozenIn, Chosen}
 use Rattle.freezes.proofs.Prefixes.{shorter, longest-shorter, freeze-below}
 use Rattle.freezes.proofs.Places.{placed, chosen-part, chosen-first, chosen-next}
@@ -72,10 +73,6 @@ climb-start s name whole = record {
   inside = omega arith;
   within = omega arith;
 }
-
--- the rest as it is lent
-rest-lent : (from : ℕ) (s : Bytes) → take (length s - from) (drop from s) ≡ drop from s
-rest-lent from s = take-all (length s - from) (drop from s) (omega (arith, length-drop from s))
 
 module _ {s name : Bytes} {n from : ℕ} {best : Place} (h : Climb s name n from best) where
   pub lent-entries : Entries (take (length s - from) (drop from s))

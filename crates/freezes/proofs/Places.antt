@@ -6,7 +6,7 @@ use mathlib.Core.Option.{Option, none, some}
 use Prim.Native.Nat.{ℕ, _+_, _-_, _≤_, _<_}
 use native.Mathlib.Decide.{decLt}
 use native.Mathlib.Omega.{arith}
-use borrow.Author.Tests.{le-leb, lt-ltb, le-ltb, eqb-true, eqb-false}
+use borrow.Author.Tests.{lt-ltb, le-ltb, eqb-true, eqb-false}
 use lib.Dec.{eqb, ltb}
 use lib.ListN.{length, take, drop, getD, length-drop}
 use lib.Seq.{slice, drop-drop}
@@ -20,7 +20,7 @@ use Rattle.model.specs.Key.{keyOf, subject, freezeKey}
 use Rattle.model.specs.Map.{get}
 use Rattle.model.specs.Contents.{Entry, key, kept, shown, recordKey}
 use Rattle.model.specs.Image.{entryOf}
-use Rattle.model.specs.Reply.{Reply, accepted, emitBytes}
+use Rattle.model.specs.Reply.{Reply, accepted}
 use Rattle.model.specs.Snapshot.{emit}
 use Rattle.model.specs.Lookup.{found, beginsWith, internal, literal, prefixed, longestBy, freezeBy, shownAt, freeze, asList}
 use Rattle.model.specs.declared.Kind.the-variants.{TopicFreeze}
@@ -34,7 +34,7 @@ use Rattle.fields.proofs.Parse.{take-drop}
 use Rattle.entries.specs.Entries.{recordsIn, Entries, Placed, recordIn}
 use Rattle.entries.proofs.Lookups.{present}
 use Rattle.found.specs.Found.{Query, queryKey, foundIn, AllKept, recordAt, PlaceHolds}
-use Rattle.found.proofs.Finds.{found-holds, found-record}
+use Rattle.found.proofs.Finds.{found-holds, found-record, emit-nothing}
 use Rattle.judge.specs.Judge.{entriesIn}
 use Rattle.freezes.specs.Freezes.{frozenIn, Chosen}
 
@@ -138,10 +138,6 @@ module _ (s name : Bytes) {at end : ℕ} (p : Placed s (queryKey 18 name literal
   prefix-next empty c = chosen-next s (longestBy (frozenIn s prefixed) [] name) one-literal empty c
 
 -- 4. What is written
-
-emit-nothing : (out : Bytes) → (accepted (0 ∷ []) ≡ emit [] out .reply) × (out ≡ emit [] out .buffer)
-unfolding emit emitBytes
-emit-nothing out = rw (le-leb 0 (length out) (omega arith)) (refl, refl)
 
 module _ (s name : Bytes) {b : Bool} (eb : b ≡ beginsWith internal name) where
   pub internal-none : b ≡ true → (out : Bytes)

@@ -1,6 +1,6 @@
 -- The prefixes of a name: the longest that is stored, by those of growing length; a shorter one is below a longer one.
 use mathlib.Core.Path.{_≡_, refl, sym, ap, _∙_}
-use mathlib.Core.List.{List, [], _∷_, _++_, append-assoc, append-nil}
+use mathlib.Core.List.{[], _∷_, _++_, append-assoc, append-nil}
 use mathlib.Core.Option.{Option, none, some}
 use Prim.Native.Nat.{ℕ, zero, suc, _+_, _≤_, _<_, Ordering·lt}
 use native.Mathlib.Omega.{arith}

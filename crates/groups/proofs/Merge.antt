@@ -20,9 +20,10 @@ use Rattle.entries.specs.Entries.{recordsIn, Entries, sizeAt, Placed, recordIn}
 use Rattle.entries.specs.declared.Cursor.{Cursor}
 use Rattle.entries.proofs.Records.{record-key}
 use Rattle.entries.proofs.Turns.{Stands, lent}
+use Rattle.keys.proofs.Found.{rest-lent}
 use Rattle.groups.specs.Groups.{apartIn, beginsIn}
 use Rattle.groups.proofs.Together.{onward, onward-asc, groups-turn}
-use Rattle.groups.proofs.Places.{lent-value, none-past, rest-lent, onward-records, onward-entries}
+use Rattle.groups.proofs.Places.{lent-value, none-past, onward-records, onward-entries}
 
 -- at a place of the entries and one of the groups
 pub record Merge (s t : Bytes) (from at : ℕ) : Type 0 where

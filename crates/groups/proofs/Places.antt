@@ -4,8 +4,8 @@ use mathlib.Core.Bool.{Bool, false}
 use mathlib.Core.List.{[], _++_}
 use Prim.Native.Nat.{ℕ, _-_, _≤_}
 use native.Mathlib.Omega.{arith}
-use lib.ListN.{length, take, drop, length-drop, take-append-drop, drop-of-length-le}
-use lib.Seq.{take-all, drop-append-le, length-take-le}
+use lib.ListN.{length, take, drop, take-append-drop, drop-of-length-le}
+use lib.Seq.{drop-append-le, length-take-le}
 use Rattle.model.specs.Number.{Bytes, AreBytes}
 use Rattle.model.specs.Order.{Key}
 use Rattle.model.specs.Shape.{stored, fault}
@@ -52,9 +52,6 @@ module _ (s : Bytes) (g : Rec) where
   first-none h = sym (ap (beginsIn g) (none-past s 0 h))
 
 -- 3. The entries from a place on
-
-pub rest-lent : (from : ℕ) (s : Bytes) → take (length s - from) (drop from s) ≡ drop from s
-rest-lent from s = take-all (length s - from) (drop from s) (omega (arith, length-drop from s))
 
 module _ (s : Bytes) (areBytes : AreBytes s) (whole : Entries s) (k : Key) (at end : ℕ) (p : Placed s k at end) where
   spelt-onward : drop at s ≡ spelt (onward k (recordsIn s))

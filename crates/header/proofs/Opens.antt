@@ -5,7 +5,7 @@ use mathlib.Core.List.{_++_, append-nil}
 use Prim.Native.Nat.{ℕ, zero, suc, _-_, _≤_}
 use native.Mathlib.Omega.{arith}
 use borrow.Author.Tests.{not-true, not-false}
-use lib.ListN.{length, drop, replicate, length-replicate}
+use lib.ListN.{length, drop, length-replicate}
 use Rattle.model.specs.Number.{Bytes, span}
 use Rattle.model.specs.Contents.{fresh}
 use Rattle.model.specs.Image.{isCapacity, zeros, header, headSize, entryBytes, imageOf, openOf}

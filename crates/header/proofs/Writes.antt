@@ -1,13 +1,11 @@
 -- A buffer that is written part after part, from the start on; and the header so written.
 use mathlib.Core.Path.{_≡_, refl, sym, ap, ap₂, _∙_}
-use mathlib.Core.List.{_++_, append-assoc}
-use Prim.Native.Nat.{ℕ, _+_, _≤_}
-use native.Mathlib.Omega.{arith}
+use mathlib.Core.List.{_++_}
+use Prim.Native.Nat.{ℕ, _+_}
 use lib.ListN.{length, take, drop}
 use lib.Seq.{take-at, drop-at, drop-drop}
 use Rattle.model.specs.Number.{Bytes, bytes}
-use Rattle.model.specs.Contents.{fresh}
-use Rattle.model.specs.Image.{mark, zeros, header, headSize, imageOf, openOf}
+use Rattle.model.specs.Image.{mark, header, headSize}
 use Rattle.header.specs.Header.{fixedOf}
 
 -- one part more

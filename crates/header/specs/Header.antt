@@ -3,7 +3,6 @@ use mathlib.Core.Bool.{Bool, _&&_}
 use mathlib.Core.List.{[]}
 use Prim.Native.Nat.{ℕ}
 use lib.Dec.{eqb}
-use lib.ListN.{take}
 use lib.Seq.{slice}
 use Rattle.model.specs.Choice.{every}
 use Rattle.model.specs.Number.{Bytes}

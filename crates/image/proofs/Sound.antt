@@ -1,20 +1,18 @@
 -- The exact test's clauses, as they are tested on the records that stand for entries.
 use mathlib.Core.Path.{_≡_, refl, sym, ap, ap₂, _∙_}
-use mathlib.Core.Bool.{Bool, true, false, cond, _&&_, _||_, not}
+use mathlib.Core.Bool.{Bool, true, false, _&&_, not}
 use mathlib.Core.List.{List, [], _∷_, _++_, map}
-use Prim.Native.Nat.{ℕ}
 use lib.Dec.{eqb}
-use lib.ListN.{length, drop, take}
 use Rattle.model.specs.Choice.{every}
-use Rattle.model.specs.Number.{Bytes, number}
+use Rattle.model.specs.Number.{Bytes}
 use Rattle.model.specs.Run.{value}
 use Rattle.model.specs.Kind.{kindNumber}
 use Rattle.model.specs.Record.{Rec}
-use Rattle.model.specs.Map.{any, count, ascending}
-use Rattle.model.specs.Contents.{Entry, key, recordKey, partitions, ofTopic, inGroupOf, isGroup, storable, storableEntry, namedApart, Fixed, fresh, sound}
+use Rattle.model.specs.Map.{any, ascending}
+use Rattle.model.specs.Contents.{key, recordKey, partitions, ofTopic, inGroupOf, isGroup, storable, storableEntry, namedApart, Fixed, fresh, sound}
 use Rattle.model.specs.Image.{entryOf, flagReads, realOf, emptiesOf}
 use Rattle.laws.specs.Choice.{and-left, and-right, and-both}
-use Rattle.laws.specs.Lists.{All, every-map, every-append, every-true, all-every, all-imp}
+use Rattle.laws.specs.Lists.{every-map, every-append, every-true, all-every, all-imp}
 use Rattle.laws.specs.Count.{count-map, any-map}
 use Rattle.laws_image.specs.Entries.{entry-key, ascending-entries, real-empties, bare-reads, group-bare}
 use Rattle.stored.specs.Stored.{storableRecord, isStored}

@@ -12,13 +12,12 @@ use lib.ListN.{length, take, drop, length-drop}
 use lib.Seq.{take-length, length-take-le}
 use Rattle.model.specs.Choice.{every, isSome}
 use Rattle.model.specs.Number.{Bytes, AreBytes}
-use Rattle.model.specs.Order.{Key}
 use Rattle.model.specs.Kind.{kindOf, kinds}
 use Rattle.model.specs.Record.{Rec}
 use Rattle.model.specs.Key.{keyOf, subject, producerKey}
 use Rattle.model.specs.Map.{get, ascending}
 use Rattle.model.specs.Contents.{recordKey, isGroup, namedApart, fixedRoom}
-use Rattle.model.specs.Image.{entryOf, realOf, emptiesOf}
+use Rattle.model.specs.Image.{entryOf, realOf}
 use Rattle.model.specs.declared.Kind.the-variants.{ProducerIds}
 use Rattle.laws.specs.Choice.{present, true-false, and-left, and-right}
 use Rattle.laws_image.specs.Weight.{producerSize}

@@ -1,15 +1,14 @@
 -- The elements of a quota, one at a time: what a step over them tells, and how it decides the order of two lists.
-use mathlib.Core.Path.{_≡_, refl, sym, ap, ap₂, _∙_}
+use mathlib.Core.Path.{_≡_, ap, _∙_}
 use mathlib.Core.List.{List, [], _∷_}
-use mathlib.Core.Option.{Option, none, some}
-use Prim.Native.Nat.{ℕ, _+_, _≤_, _<_, Ordering, Ordering·lt, Ordering·eq, Ordering·gt}
+use mathlib.Core.Option.{none, some}
+use Prim.Native.Nat.{ℕ, _+_, _≤_, _<_, Ordering·lt, Ordering·eq, Ordering·gt}
 use native.Mathlib.Omega.{arith}
 use lib.ListN.{length}
 use lib.Seq.{slice}
 use Rattle.model.specs.Number.{Bytes}
-use Rattle.model.specs.Order.{compareBytes, thenBy, ordering}
-use Rattle.model.specs.Run.{Run, done, torn, item, runOf, field, values}
-use Rattle.model.specs.Key.{namePart}
+use Rattle.model.specs.Order.{compareBytes, ordering}
+use Rattle.model.specs.Run.{Run, item, runOf, field, values}
 use Rattle.model.specs.declared.Order.{Order}
 use Rattle.model.specs.declared.Order.the-variants.{Less, Equal, Greater}
 use Rattle.laws_records.specs.Fields.{Ascending, values-here, values-below}

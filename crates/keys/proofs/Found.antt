@@ -1,21 +1,29 @@
 -- What a caller of `field` learns, by the variant.
-use mathlib.Core.Path.{_≡_, refl, sym, ap, _∙_}
+use mathlib.Core.Path.{_≡_, sym, ap, _∙_}
 use mathlib.Core.List.{[]}
-use mathlib.Core.Option.{Option, none, some}
+use mathlib.Core.Option.{none, some}
 use Prim.Native.Nat.{ℕ, _+_, _-_, _≤_}
 use native.Mathlib.Omega.{arith}
-use lib.ListN.{length, take, drop}
-use lib.Seq.{slice, take-length, length-slice}
+use lib.ListN.{length, take, drop, length-drop}
+use lib.Seq.{slice, take-all, take-length, length-slice}
 use Rattle.model.specs.Number.{Bytes, number}
 use Rattle.model.specs.Run.{Run, field, value, orEmpty}
 use Rattle.fields.proofs.Parse.{take-drop}
-use Rattle.fields.specs.Fields.{held, Within}
+use Rattle.fields.specs.Fields.{held}
 use Rattle.fields.specs.declared.Found.{Found}
 use Rattle.fields.specs.declared.Found.the-variants.{Part, Missing}
 
 -- a part that is lent, as a slice
 pub lent-slice : (s : Bytes) (a e : ℕ) → a ≤ e → take (e - a) (drop a s) ≡ slice a e s
 lent-slice s a e h = let q : a + (e - a) ≡ e = omega arith in take-drop a (e - a) s ∙ rw q
+
+-- a part that begins after what changed
+pub slice-again : (s t : Bytes) (from to : ℕ) → from ≤ to → drop from s ≡ drop from t → slice from to s ≡ slice from to t
+slice-again s t from to h e = sym (lent-slice s from to h) ∙ ap (take (to - from)) e ∙ lent-slice t from to h
+
+-- the rest, as it is lent
+pub rest-lent : (from : ℕ) (s : Bytes) → take (length s - from) (drop from s) ≡ drop from s
+rest-lent from s = take-all (length s - from) (drop from s) (omega (arith, length-drop from s))
 
 -- the rest of a slice
 pub slice-rest : (n : ℕ) (s : Bytes) → slice n (length s) s ≡ drop n s
@@ -35,10 +43,6 @@ module _ (s : Bytes) (tag : ℕ) (run : Run) {r : Found} (e : held s r ≡ field
 
   pub value-missing : r ≡ Missing → _≡_ {A = Bytes} [] (value tag run)
   value-missing h = sym (ap orEmpty (field-missing h))
-
-pub within-part : {to : ℕ} {r : Found} {start len : ℕ} → r ≡ Part start len → Within to r → start + len ≤ to
-unfolding Within
-within-part {to} {r} {start} {len} h w = let q : Within to (Part start len) = rw h at w in q
 
 -- a part's length is its value's
 pub part-length : (s : Bytes) (a e : ℕ) (v : Bytes) → a ≤ e → e ≤ length s → slice a e s ≡ v → e ≡ a + length v

@@ -1,26 +1,25 @@
 -- Keys of two records: ranks first, then what tells the entries of a group apart, by its form.
 use mathlib.Core.Path.{_≡_, refl, sym, ap, ap₂, _∙_}
 use mathlib.Core.List.{List, [], _∷_}
-use mathlib.Core.Option.{Option, none, some}
-use mathlib.Core.Bool.{Bool, true, false}
-use Prim.Native.Nat.{ℕ, zero, suc, _≤_, _<_, Ordering, Ordering·lt, Ordering·eq, Ordering·gt}
+use mathlib.Core.Option.{some}
+use Prim.Native.Nat.{ℕ, zero, suc, _<_, Ordering, Ordering·lt, Ordering·eq, Ordering·gt}
 use native.Mathlib.Omega.{arith}
 use lib.ListN.{length, getD, drop}
 use Rattle.model.specs.Number.{Bytes, AreBytes, number, span}
-use Rattle.model.specs.Order.{Key, thenBy, lexicographic, compareBytes, compareKeys}
+use Rattle.model.specs.Order.{Key, thenBy, compareBytes, compareKeys}
 use Rattle.model.specs.Run.{Run, runOf, field, value, values}
 use Rattle.model.specs.Kind.{kindOf}
-use Rattle.model.specs.Key.{rank, rankPart, numberPart, partitionPart, namePart, entitiesKey, subject, keyOf, keyRank}
+use Rattle.model.specs.Key.{rank, rankPart, numberPart, namePart, entitiesKey, subject, keyOf, keyRank}
 use Rattle.model.specs.declared.Kind.{Kind}
 use Rattle.model.specs.declared.Kind.the-variants.{Topic, Partition, BrokerRegistration, DeleteTopic, TopicConfig, BrokerConfig, ClientQuota, ProducerIds, UnregisterBroker, KRaftVersion, FeatureLevel, ClientMetricsConfig, FeaturesEpoch, PartitionDirAssignment, PartitionOffsetAdvance, GroupConfig, ControllerRegistration, TopicFreeze, BreakGlassProposal, DeleteBreakGlassProposal, PartitionElr, PartitionRecovery, PartitionUpdate, BrokerRegistrationChange, UnregisterController}
-use Rattle.laws.specs.Order.{Lt, lt-flip, rank-lt, bytes-total, keys-total}
+use Rattle.laws.specs.Order.{lt-flip, rank-lt, bytes-total, keys-total}
 use Rattle.laws.specs.Numbers.{drop-are-bytes, number-bound}
 use Rattle.laws_records.specs.Runs.{AreFields, fields-run}
-use Rattle.laws_records.specs.Fields.{Ascending, value-are-bytes}
+use Rattle.laws_records.specs.Fields.{value-are-bytes}
 use Rattle.laws_image.specs.Ranks.{rank-injective, key-rank}
 use Rattle.keys.specs.Keys.{kindIn, runIn, rankOf, keyIn, WidthsFit, Keyed}
 use Rattle.keys.specs.Forms.{keyForm, formOf, byForm, FormFits}
-use Rattle.keys.specs.Entities.{entityOrder, compareEntities}
+use Rattle.keys.specs.Entities.{compareEntities}
 use Rattle.keys.proofs.Orders.{then-same, number-part}
 
 -- 1. Parts

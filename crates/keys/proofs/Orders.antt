@@ -1,10 +1,10 @@
 -- Orders in steps: the first difference decides, and a part of one number compares as the number.
 use mathlib.Core.Path.{_≡_, refl, sym, _∙_}
-use mathlib.Core.List.{List, [], _∷_}
+use mathlib.Core.List.{[], _∷_}
 use Prim.Native.Nat.{ℕ, _≤_, _<_, compare, Ordering, Ordering·lt, Ordering·eq, Ordering·gt}
 use lib.ListN.{length}
 use Rattle.model.specs.Number.{Bytes, AreBytes, number}
-use Rattle.model.specs.Order.{thenBy, lexicographic, compareBytes, compareKeys, ordering}
+use Rattle.model.specs.Order.{thenBy, compareBytes, ordering}
 use Rattle.model.specs.declared.Order.{Order}
 use Rattle.model.specs.declared.Order.the-variants.{Less, Equal, Greater}
 use Rattle.shapes.proofs.Bases.{kind-past}

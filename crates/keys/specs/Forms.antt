@@ -1,8 +1,8 @@
 -- What tells the entries of a group apart, by form: 0 nothing, 1 the field of tag 1, 2 tags 1 and 2, 3 tags 2 and 1, 4 tag 1 and the partition's
 -- number, 5 the entities and tag 2.
 use mathlib.Core.Path.{_≡_}
-use mathlib.Core.Bool.{Bool, cond}
-use Prim.Native.Nat.{ℕ, zero, suc, Ordering, Ordering·eq}
+use mathlib.Core.Bool.{cond}
+use Prim.Native.Nat.{ℕ, Ordering, Ordering·eq}
 use lib.Dec.{eqb}
 use lib.ListN.{length}
 use Rattle.model.specs.Choice.{given}

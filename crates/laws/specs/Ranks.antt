@@ -1,6 +1,6 @@
 -- The snapshot's groups by kind number, in the order of `to_records`' code: 3, 17, 6, 1, 2, 15, 21, 22, 5, 7, 8, 12, 16, 18, 19, 11, 13, 10.
 use mathlib.Core.Path.{_≡_, refl}
-use mathlib.Core.List.{List, [], _∷_, map}
+use mathlib.Core.List.{[], _∷_, map}
 use Prim.Native.Nat.{ℕ}
 use Rattle.model.specs.Choice.{given}
 use Rattle.model.specs.Kind.{kindOf, kinds}

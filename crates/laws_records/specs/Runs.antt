@@ -1,6 +1,6 @@
 -- Fields and the bytes that spell them undo each other.
 use mathlib.Core.Path.{_≡_, refl, sym, ap, _∙_}
-use mathlib.Core.List.{[], _∷_, _++_}
+use mathlib.Core.List.{[], _∷_, _++_, append-assoc}
 use mathlib.Core.Bool.{Bool, true, false, cond}
 use Prim.Native.Nat.{ℕ, zero, suc, _+_, _*_, _≤_, _<_}
 use native.Mathlib.Nat.{not-suc-le-zero, le-of-suc-le-suc}
@@ -89,6 +89,12 @@ unfolding bytesOf
 length-item t v r = let o = length-append v (bytesOf r) in omega arith
 
 -- where all the bytes fit a length of two bytes, each value does
+-- more bytes after the last field's
+pub item-append : (tag : ℕ) (v : Bytes) (r longer : Run) (x : Bytes) → bytesOf longer ≡ bytesOf r ++ x → bytesOf (item tag v longer) ≡ bytesOf (item tag v r) ++ x
+unfolding bytesOf
+item-append tag v r longer x e =
+    ap (λ s. tag ∷ (bytes 2 (length v) ++ v ++ s)) e ∙ ap (λ s. tag ∷ s) (sym (append-assoc (bytes 2 (length v) ++ v) (bytesOf r) x))
+
 pub short-bytes : (r : Run) → length (bytesOf r) < 65536 → Short r
 short-bytes done h = tt
 short-bytes torn h = tt

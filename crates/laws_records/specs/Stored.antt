@@ -1,5 +1,5 @@
 -- Records as an image stores them: as they are logged, but for a topic's one field more.
-use mathlib.Core.Path.{_≡_, refl}
+use mathlib.Core.Path.{_≡_, refl, sym, _∙_}
 use mathlib.Core.Bool.{Bool, true, false}
 use Prim.Native.Nat.{ℕ}
 use borrow.Author.Tests.{ne-eqb}
@@ -26,3 +26,12 @@ pub fault-topic : (name id : Bytes) (count factor : ℕ) (named : Bool)
 unfolding rowsOf shapeOf kindNumber anyRequired mayFollow leafFault valueFault runFault
 fault-topic name id count factor true = refl
 fault-topic name id count factor false = refl
+
+-- a topic passes whatever its count, factor and flag
+pub topic-passes : (name id : Bytes) (count factor c f : ℕ) (named b : Bool)
+    → fault stored Topic (topicRun name id c f (item 5 (flagBytes b) done))
+    ≡ fault stored Topic (topicRun name id count factor (item 5 (flagBytes named) done))
+topic-passes name id count factor c f named b = fault-topic name id c f b ∙ same ∙ sym (fault-topic name id count factor named)
+  where
+    same : fault logged Topic (topicRun name id c f done) ≡ fault logged Topic (topicRun name id count factor done)
+    same = unfold rowsOf shapeOf anyRequired mayFollow leafFault valueFault runFault in refl

@@ -10,22 +10,22 @@ use lib.Dec.{lit<}
 use Rattle.model.specs.Choice.{given, total, folded}
 use Rattle.model.specs.Number.{Bytes, AreBytes, span, isNegative}
 use Rattle.model.specs.Order.{Key, sameBytes}
-use Rattle.model.specs.Run.{Run, done, item, value}
+use Rattle.model.specs.Run.{Run, value}
 use Rattle.model.specs.Kind.{kindNumber}
-use Rattle.model.specs.Shape.{rowsOf, anyRequired, mayFollow, leafFault, runFault, valueFault, logged, stored, shapeOf, fault}
+use Rattle.model.specs.Shape.{rowsOf, stored, shapeOf, fault}
 use Rattle.model.specs.Key.{topicKey}
 use Rattle.model.specs.Map.{get, count}
-use Rattle.model.specs.Contents.{Entry, topic, part, plain, topicRun, flagBytes, kept, key, Contents, partitions, size, namesId, weight}
+use Rattle.model.specs.Contents.{Entry, topic, part, plain, flagBytes, kept, key, Contents, partitions, size, namesId, weight}
 use Rattle.model.specs.Move.{countOf, replicas, nodeCount}
 use Rattle.model.specs.Snapshot.{lastFactor, restoredFactor, lastOwner, ownerOf, restoredEntry, levels, lessOne, restoredEpoch, restored}
-use Rattle.model.specs.declared.Kind.the-variants.{Topic, Partition}
+use Rattle.model.specs.declared.Kind.the-variants.{Partition}
 use Rattle.laws.specs.Choice.{impossible, and-left, and-right, over}
 use Rattle.laws.specs.Order.{sameBytes-self, sameBytes-true}
 use Rattle.laws.specs.Lists.{All, In, all-imp, all-map}
 use Rattle.laws.specs.Numbers.{bytes-are-bytes}
 use Rattle.laws.specs.Map.{map-asc, get-map, get-in}
 use Rattle.laws.specs.Count.{count-map}
-use Rattle.laws_records.specs.Stored.{fault-topic}
+use Rattle.laws_records.specs.Stored.{topic-passes}
 use Rattle.laws_records.specs.Faults.{fault-value}
 use Rattle.laws_image.specs.Fits.{Readable, Proper, Fits}
 use Rattle.laws_image.specs.Orderly.{Storable, names, Orderly, orderly, sound-orderly}
@@ -70,15 +70,6 @@ factor-fits name factor l h u =
         go true = omega (arith, replicas-few r (p .readable .passes))
         go false = k
     one (plain r) p n k = k
-
--- a topic reads back whatever its count, factor and flag
-topic-passes : (name id : Bytes) (count factor c f : ℕ) (named b : Bool)
-    → fault stored Topic (topicRun name id c f (item 5 (flagBytes b) done))
-    ≡ fault stored Topic (topicRun name id count factor (item 5 (flagBytes named) done))
-topic-passes name id count factor c f named b = fault-topic name id c f b ∙ same ∙ sym (fault-topic name id count factor named)
-  where
-    same : fault logged Topic (topicRun name id c f done) ≡ fault logged Topic (topicRun name id count factor done)
-    same = unfold rowsOf shapeOf anyRequired mayFollow leafFault valueFault runFault in refl
 
 flag-bytes : (b : Bool) → AreBytes (flagBytes b)
 flag-bytes true = (lit< tt, (lit< tt, (lit< tt, (lit< tt, (lit< tt, tt)))))

@@ -13,7 +13,6 @@ use Rattle.model.specs.Number.{Bytes, bytes}
 use Rattle.model.specs.Order.{Key}
 use Rattle.model.specs.Text.{isText}
 use Rattle.model.specs.Shape.{stringLimit, textFault}
-use Rattle.model.specs.Kind.{kinds}
 use Rattle.model.specs.Key.{topicKey, partitionKey, nodeKey}
 use Rattle.model.specs.Record.{Rec}
 use Rattle.model.specs.Map.{get}

@@ -25,7 +25,6 @@ ghost use Rattle.model.specs.Lookup.{found, topicByName, topicById, partitionOf
 ghost use Rattle.records.specs.Answers.{replied};
 ghost use Rattle.found.specs.Found.{Query, queryKey};
 ghost use Rattle.lookup.specs.Values.{valued, rating, ratedAs};
-ghost use Rattle.rates.specs.Rates.{rated};
 
 // The kinds that are looked up.
 const TOPIC: u8 = 1;

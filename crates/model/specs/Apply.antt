@@ -1,7 +1,7 @@
 -- *Apply*: "1; Read's; 17, the offset sum leaves i64; 18, exactly if the weight afterwards exceeds the capacity. It does not validate."
-use Prim.Native.Nat.{ℕ, zero, suc}
-use mathlib.Core.Bool.{Bool, true, false, cond}
-use mathlib.Core.List.{List, [], _∷_}
+use Prim.Native.Nat.{ℕ}
+use mathlib.Core.Bool.{cond}
+use mathlib.Core.List.{[]}
 use lib.Dec.{leb}
 use lib.ListN.{length}
 use Rattle.model.specs.Number.{Bytes}

@@ -1,14 +1,13 @@
 -- What an image holds, and what it weighs.
-use Prim.Native.Nat.{ℕ, zero, suc, _+_, _-_}
+use Prim.Native.Nat.{ℕ, _+_, _-_}
 use mathlib.Core.Bool.{Bool, true, false, cond, _&&_, _||_, not}
-use mathlib.Core.List.{List, [], _∷_, _++_, map}
-use mathlib.Core.Option.{Option, none, some}
+use mathlib.Core.List.{List, [], _∷_}
 use lib.Dec.{leb, ltb, eqb}
 use lib.ListN.{length}
 use Rattle.model.specs.Choice.{isSome, isEmpty, every, total}
-use Rattle.model.specs.Number.{Bytes, number, bytes, span, half, isNegative}
+use Rattle.model.specs.Number.{Bytes, number, bytes, span, isNegative}
 use Rattle.model.specs.Order.{Key, compareBytes, isBelow, sameBytes}
-use Rattle.model.specs.Run.{Run, done, item, items, runOf, field, value, values, setField, dropField}
+use Rattle.model.specs.Run.{Run, done, item, runOf, field, value, values, setField, dropField}
 use Rattle.model.specs.Kind.{kindNumber}
 use Rattle.model.specs.Record.{Rec, rec, recordBytes}
 use Rattle.model.specs.Key.{rank, keyOf, topicKey, keyRank, keyName, groupKey, startsWith}

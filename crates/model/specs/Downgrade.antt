@@ -1,7 +1,7 @@
 -- *Downgrade*: "changed broker projections by node, then, below 17, one DirAssignment per non-`MIGRATING` slot below both lengths, by topic,
 -- partition, slot. Log dirs clear below 17, cordoned dirs below 30."
 use Prim.Native.Nat.{ℕ, zero, suc, _+_, _/_, min}
-use mathlib.Core.Bool.{Bool, true, false, cond, not, _&&_}
+use mathlib.Core.Bool.{Bool, cond}
 use mathlib.Core.List.{List, [], _∷_, _++_}
 use lib.Dec.{ltb, eqb}
 use lib.ListN.{length, take, drop, replicate}

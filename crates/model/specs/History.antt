@@ -1,18 +1,18 @@
 -- Histories and cuts: 01's section of that name, and demand 3 as two claims. `crates/history` proves them.
 use mathlib.Core.Path.{_≡_}
-use Prim.Native.Nat.{ℕ, zero, suc}
+use Prim.Native.Nat.{ℕ}
 use mathlib.Core.Bool.{Bool, true, false, cond, _&&_, not}
 use mathlib.Core.List.{List, [], _∷_, _++_}
 use mathlib.Core.Option.{Option, none, some}
-use lib.Dec.{leb, eqb}
+use lib.Dec.{eqb}
 use lib.ListN.{length, take}
-use Rattle.model.specs.Choice.{given, every}
+use Rattle.model.specs.Choice.{every}
 use Rattle.model.specs.Number.{Bytes, AreBytes, number, isNegative}
 use Rattle.model.specs.Order.{sameBytes}
 use Rattle.model.specs.Run.{value}
 use Rattle.model.specs.Kind.{kindNumber}
 use Rattle.model.specs.Shape.{logged}
-use Rattle.model.specs.Record.{Rec, Got, read, onGot}
+use Rattle.model.specs.Record.{read, onGot}
 use Rattle.model.specs.Key.{topicKey}
 use Rattle.model.specs.Map.{get}
 use Rattle.model.specs.Contents.{Entry, topic, part, plain, key, Contents}

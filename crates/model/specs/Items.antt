@@ -4,7 +4,7 @@ use mathlib.Core.Bool.{Bool, true, false}
 use mathlib.Core.List.{List, [], _∷_}
 use Rattle.model.specs.Number.{Bytes}
 use Rattle.model.specs.Shape.{Source}
-use Rattle.model.specs.Record.{Rec, Got, read, onGot}
+use Rattle.model.specs.Record.{Rec, read, onGot}
 
 -- records up to the end, or up to one that Read refuses
 pub data Items : Type 0 where

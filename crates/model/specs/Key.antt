@@ -1,9 +1,9 @@
 -- Keys and their order: 01, "A snapshot follows `to_records`' groups, each ascending by key (strings and ids by bytes, numbers by value;
 -- quota entities element by element, type then name, an absent name first, a list before its longer continuations; literal before prefixed
 -- scopes)".
-use Prim.Native.Nat.{ℕ, zero, suc}
+use Prim.Native.Nat.{ℕ}
 use mathlib.Core.Bool.{Bool, true, false, cond, _&&_}
-use mathlib.Core.List.{List, [], _∷_, _++_}
+use mathlib.Core.List.{List, [], _∷_}
 use mathlib.Core.Option.{Option, none, some}
 use lib.Dec.{leb}
 use Rattle.model.specs.Number.{Bytes, number, place}

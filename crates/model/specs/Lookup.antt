@@ -1,20 +1,19 @@
 -- *Lookups*: "1; a queried name's 4, then 5; 19, output too short. A stored entry is returned as its record; absent is no refusal and writes
 -- nothing."
 use Prim.Native.Nat.{ℕ, zero, suc, _+_, _*_, _-_, _%_}
-use mathlib.Core.Bool.{Bool, true, false, cond, _&&_, _||_, not}
+use mathlib.Core.Bool.{Bool, true, false, cond, _&&_}
 use mathlib.Core.List.{List, [], _∷_, _++_}
 use mathlib.Core.Option.{Option, none, some}
 use lib.Dec.{leb, ltb, eqb}
-use lib.ListN.{length}
 use Rattle.model.specs.Choice.{given, orElse}
 use Rattle.model.specs.Number.{Bytes, bytes, span, half, isNegative}
-use Rattle.model.specs.Order.{Key, sameBytes}
+use Rattle.model.specs.Order.{Key}
 use Rattle.model.specs.Run.{Run, field}
 use Rattle.model.specs.Shape.{stringLimit, textFault}
 use Rattle.model.specs.Record.{Rec}
 use Rattle.model.specs.Key.{topicKey, partitionKey, nodeKey, configKey, freezeKey}
 use Rattle.model.specs.Map.{get}
-use Rattle.model.specs.Contents.{Entry, topic, part, plain, shown, key, Contents, namesId}
+use Rattle.model.specs.Contents.{Entry, topic, part, plain, shown, key, namesId}
 use Rattle.model.specs.Image.{isImage, contentsOf}
 use Rattle.model.specs.Move.{runAt, replicas, isr, nodeCount}
 use Rattle.model.specs.Snapshot.{emit}

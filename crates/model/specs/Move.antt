@@ -8,7 +8,7 @@ use lib.ListN.{length, take, drop, replicate}
 use Rattle.model.specs.Choice.{choose, given, isSome, isEmpty}
 use Rattle.model.specs.Number.{Bytes, number, bytes, span, half, place, isNegative}
 use Rattle.model.specs.Order.{Key, compareBytes, compareKeys, sameBytes, isSame}
-use Rattle.model.specs.Run.{Run, done, item, items, runOf, field, value, values, setField, dropField, orEmpty}
+use Rattle.model.specs.Run.{Run, done, item, items, runOf, field, value, values, setField, dropField}
 use Rattle.model.specs.Kind.{kindNumber}
 use Rattle.model.specs.Record.{Rec, rec}
 use Rattle.model.specs.Key.{rank, keyRank, keyOf, topicKey, partitionKey, nodeKey, nameKey, producerKey, topicOf}

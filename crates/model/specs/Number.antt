@@ -1,8 +1,8 @@
 -- Numbers as bytes: 01, "integers are big-endian, signed ones two's complement". Each statement is over the width in general.
 use Prim.Native.Nat.{ℕ, zero, suc, _+_, _*_, _/_, _%_, _^_, _<_}
-use mathlib.Core.Bool.{Bool, true, false, cond}
+use mathlib.Core.Bool.{Bool}
 use mathlib.Core.List.{List, [], _∷_, _++_}
-use lib.Dec.{leb, ltb}
+use lib.Dec.{leb}
 
 -- a byte string: a name, a value, an input
 abbrev pub Bytes : Type 0

@@ -1,15 +1,14 @@
 -- Records, Read and Write: 01, "A record is a kind byte, a two-byte body length, and fields".
 use Prim.Native.Nat.{ℕ, zero, suc, _+_, _*_}
-use mathlib.Core.Bool.{Bool, true, false, cond}
+use mathlib.Core.Bool.{cond}
 use mathlib.Core.List.{List, [], _∷_, _++_}
-use mathlib.Core.Option.{Option, none, some}
-use lib.Dec.{leb, ltb, eqb}
+use lib.Dec.{leb, ltb}
 use lib.ListN.{length, take, drop}
 use Rattle.model.specs.Choice.{given}
 use Rattle.model.specs.Number.{Bytes, bytes}
 use Rattle.model.specs.Run.{Run, done, torn, item, runOf, bytesOf}
 use Rattle.model.specs.Kind.{kindOf, kindNumber}
-use Rattle.model.specs.Shape.{Source, logged, stored, fault}
+use Rattle.model.specs.Shape.{Source, logged, fault}
 use Rattle.model.specs.Reply.{Reply, accepted, refused, Ended, unchanged, emitBytes}
 use Rattle.model.specs.declared.Kind.{Kind}
 

@@ -1,7 +1,7 @@
 -- A run of tagged fields: 01, "fields: a tag byte, a two-byte length, the value". Bytes are parsed into a `Run` once; every other
 -- definition is a function of it.
 use Prim.Native.Nat.{ℕ, zero, suc, _+_, _*_}
-use mathlib.Core.Bool.{Bool, true, false, cond}
+use mathlib.Core.Bool.{cond}
 use mathlib.Core.List.{List, [], _∷_, _++_}
 use mathlib.Core.Option.{Option, none, some}
 use lib.Dec.{leb, ltb, eqb}

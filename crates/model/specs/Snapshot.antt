@@ -1,14 +1,13 @@
 -- *Snapshot*, *Restore*, and the restored image.
 use Prim.Native.Nat.{ℕ, zero, suc, _+_, _-_}
-use mathlib.Core.Bool.{Bool, true, false, cond}
+use mathlib.Core.Bool.{Bool, cond}
 use mathlib.Core.List.{List, [], _∷_, _++_, map}
-use mathlib.Core.Option.{Option, none, some}
-use lib.Dec.{leb, eqb}
+use lib.Dec.{eqb}
 use lib.ListN.{length}
 use Rattle.model.specs.Choice.{joined, folded}
 use Rattle.model.specs.Number.{Bytes, number, bytes, span, isNegative}
 use Rattle.model.specs.Order.{Key, sameBytes}
-use Rattle.model.specs.Run.{Run, done, item, value}
+use Rattle.model.specs.Run.{done, item}
 use Rattle.model.specs.Shape.{logged}
 use Rattle.model.specs.Record.{Rec, rec, recordBytes}
 use Rattle.model.specs.Key.{rank, keyRank}
@@ -18,7 +17,7 @@ use Rattle.model.specs.Contents.{Entry, topic, part, plain, shown, key, 
 use Rattle.model.specs.Image.{isCapacity, isImage, contentsOf, imageOf}
 use Rattle.model.specs.Move.{partitionTopic, replicas, nodeCount}
 use Rattle.model.specs.Apply.{Applied, stays, becomes, apply}
-use Rattle.model.specs.Reply.{Reply, accepted, refused, Ended, unchanged, emitBytes}
+use Rattle.model.specs.Reply.{Reply, accepted, Ended, unchanged, emitBytes}
 use Rattle.model.specs.declared.Kind.the-variants.{FeatureLevel, FeaturesEpoch, KRaftVersion}
 
 -- 1. Snapshot

@@ -1,10 +1,10 @@
 -- *Validate*: "1, buffer is no image of this port; Read's; then by kind".
-use Prim.Native.Nat.{ℕ, zero, suc, _+_}
+use Prim.Native.Nat.{ℕ, _+_}
 use mathlib.Core.Bool.{Bool, true, false, cond, _&&_, not}
 use mathlib.Core.List.{List, [], _∷_}
 use mathlib.Core.Option.{Option, none, some}
-use lib.Dec.{leb, ltb, eqb}
-use Rattle.model.specs.Choice.{orThen, unless, given, isSome, isEmpty}
+use lib.Dec.{ltb, eqb}
+use Rattle.model.specs.Choice.{orThen, unless, isSome, isEmpty}
 use Rattle.model.specs.Number.{Bytes, number, half, place}
 use Rattle.model.specs.Order.{sameBytes}
 use Rattle.model.specs.Run.{Run, runOf, value, values}
@@ -12,7 +12,7 @@ use Rattle.model.specs.Shape.{logged}
 use Rattle.model.specs.Record.{Rec, read, onGot}
 use Rattle.model.specs.Key.{topicKey, partitionKey, nodeKey, nameKey}
 use Rattle.model.specs.Map.{get}
-use Rattle.model.specs.Contents.{Entry, topic, part, plain, key, Contents, partitions}
+use Rattle.model.specs.Contents.{Entry, topic, part, plain, key, partitions}
 use Rattle.model.specs.Image.{isImage, contentsOf}
 use Rattle.model.specs.Move.{runAt, brokerAt, atEpoch, storedNext, isAbove}
 use Rattle.model.specs.Reply.{Reply, refused}

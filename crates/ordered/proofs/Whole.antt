@@ -1,6 +1,6 @@
 -- Bytes read record by record: what is read at a place decides whether the rest is whole.
 use mathlib.Core.Path.{_≡_, refl, sym, ap, _∙_}
-use mathlib.Core.List.{List, [], _∷_}
+use mathlib.Core.List.{[], _∷_}
 use mathlib.Core.Bool.{true, false}
 use Prim.Native.Nat.{ℕ, zero, suc, _+_, _-_, _≤_, _<_}
 use native.Mathlib.Omega.{arith}
@@ -8,17 +8,16 @@ use lib.ListN.{length, take, drop, length-drop, drop-of-length-le}
 use lib.Seq.{drop-drop}
 use Rattle.model.specs.Number.{Bytes}
 use Rattle.model.specs.Shape.{Source, stored}
-use Rattle.model.specs.Reply.{accepted, refused}
 use Rattle.model.specs.Record.{Rec, Got, bad, got, read, onGot}
 use Rattle.model.specs.Items as Items
 use Rattle.model.specs.Items.{item, itemsFrom, itemsOf, isWhole}
-use Rattle.laws.specs.Choice.{impossible}
 use Rattle.laws_records.specs.Records.{reads}
 use Rattle.laws_records.specs.Items.{items-got, items-bad}
 use Rattle.keys.proofs.Found.{lent-slice, slice-rest}
 use Rattle.records.specs.Answers.{replied, gotReply}
 use Rattle.records.specs.declared.Answer.{Answer}
 use Rattle.records.specs.declared.Answer.the-variants.{Used, Refused}
+use Rattle.records.proofs.Replies.{used-got, refused-bad}
 
 -- 1. What is read
 
@@ -49,15 +48,6 @@ whole-bad source (b ∷ t) n h e = ap isWhole (items-bad source 0 b t n e)
 whole-end : (source : Source) (t : Bytes) → t ≡ [] → isWhole (itemsOf source t) ≡ true
 unfolding itemsFrom isWhole
 whole-end source t e = rw e
-
--- a reply tells what was read
-used-got : (g : Got) (n : ℕ) → accepted (n ∷ []) ≡ gotReply g → (r : Rec) × (g ≡ got r n)
-used-got (bad m) n e = let q : _≡_ {A = List ℕ} (n ∷ []) [] = ap (λ a. a .values) e in impossible cc
-used-got (got r m) n e = let q : _≡_ {A = List ℕ} (n ∷ []) (m ∷ []) = ap (λ a. a .values) e in (r, cc)
-
-refused-bad : (g : Got) (n : ℕ) → refused n ≡ gotReply g → g ≡ bad n
-refused-bad (bad m) n e = ap (λ a. bad (a .number)) (sym e)
-refused-bad (got r m) n e = let q : _≡_ {A = List ℕ} [] (m ∷ []) = ap (λ a. a .values) e in impossible cc
 
 -- 2. The walk
 

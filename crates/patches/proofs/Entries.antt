@@ -12,7 +12,7 @@ use Rattle.model.specs.Number.{Bytes, number, bytes, span}
 use Rattle.model.specs.Order.{sameBytes}
 use Rattle.model.specs.Run.{field, value, item, done}
 use Rattle.model.specs.Kind.{kindNumber}
-use Rattle.model.specs.Shape.{rowsOf, anyRequired, mayFollow, leafFault, runFault, valueFault, logged, stored, shapeOf, fault}
+use Rattle.model.specs.Shape.{stored, fault}
 use Rattle.model.specs.Record.{Rec, recordBytes}
 use Rattle.model.specs.Contents.{Entry, topic, part, plain, kept, topicRun, flagBytes}
 use Rattle.model.specs.Image.{entryOf}
@@ -20,7 +20,7 @@ use Rattle.model.specs.Move.{unname, tell}
 use Rattle.model.specs.declared.Kind.the-variants.{Topic}
 use Rattle.laws.specs.Choice.{and-left}
 use Rattle.laws.specs.Numbers.{bytes-are-bytes, number-bound, number-bytes}
-use Rattle.laws_records.specs.Stored.{fault-topic}
+use Rattle.laws_records.specs.Stored.{topic-passes}
 use Rattle.laws_image.specs.Entries.{entry-kept}
 use Rattle.keys.specs.Keys.{runIn}
 use Rattle.entries.specs.Entries.{IsRecord, recordIn}
@@ -92,15 +92,6 @@ pub record Fits (r : Rec) (e : Entry) : Type 0 where
   pub passes : fault stored (kept e .kind) (kept e .run) ≡ 0
   pub back : entryOf (kept e) ≡ e
   pub long : length (recordBytes (kept e)) ≡ length (recordBytes r)
-
--- a topic passes whatever its count, factor and flag
-topic-passes : (name id : Bytes) (count factor c f : ℕ) (named b : Bool)
-    → fault stored Topic (topicRun name id c f (item 5 (flagBytes b) done))
-    ≡ fault stored Topic (topicRun name id count factor (item 5 (flagBytes named) done))
-topic-passes name id count factor c f named b = fault-topic name id c f b ∙ same ∙ sym (fault-topic name id count factor named)
-  where
-    same : fault logged Topic (topicRun name id c f done) ≡ fault logged Topic (topicRun name id count factor done)
-    same = unfold rowsOf shapeOf anyRequired mayFollow leafFault valueFault runFault in refl
 
 -- a record that passes and stands for its entry
 pub record Sound (r : Rec) : Type 0 where

@@ -11,6 +11,7 @@ use Rattle.model.specs.Run.{Run, done, item, bytesOf}
 use Rattle.model.specs.Kind.{kindNumber}
 use Rattle.model.specs.Record.{recordBytes}
 use Rattle.model.specs.Contents.{topic, kept, topicRun, flagBytes}
+use Rattle.laws_records.specs.Runs.{item-append}
 
 -- 1. A part of bytes that others stand before
 
@@ -49,12 +50,6 @@ length-last : (count factor : ℕ) (named : Bool) → length (last count factor 
 unfolding bytesOf
 length-last count factor true = refl
 length-last count factor false = refl
-
--- fields after others
-item-append : (tag : ℕ) (v : Bytes) (r longer : Run) (x : Bytes) → bytesOf longer ≡ bytesOf r ++ x → bytesOf (item tag v longer) ≡ bytesOf (item tag v r) ++ x
-unfolding bytesOf
-item-append tag v r longer x e =
-    ap (λ s. tag ∷ (bytes 2 (length v) ++ v ++ s)) e ∙ ap (λ s. tag ∷ s) (sym (append-assoc (bytes 2 (length v) ++ v) (bytesOf r) x))
 
 nothing-before : (x : Bytes) → x ≡ bytesOf done ++ x
 unfolding bytesOf

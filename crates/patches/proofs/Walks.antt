@@ -15,7 +15,7 @@ use Rattle.model.specs.Move.{unname, tell}
 use Rattle.laws.specs.Numbers.{take-are-bytes}
 use Rattle.laws.specs.Lists.{All, all-imp, all-both, all-map, map-all, map-map}
 use Rattle.laws_records.specs.Items.{AllPass, records-items}
-use Rattle.keys.proofs.Found.{lent-slice}
+use Rattle.keys.proofs.Found.{lent-slice, slice-again}
 use Rattle.keys.proofs.Keys.{known-bytes}
 use Rattle.entries.specs.Entries.{recordsIn, spelt, Entries, IsRecord, recordIn}
 use Rattle.entries.specs.declared.Cursor.{Cursor}
@@ -52,10 +52,6 @@ pub walked-start : (f : Entry → Entry) (P : Rec → Type 0) (w : Bytes) (mid :
     → Walked f P w w mid 0
 walked-start f P w mid are e all =
     record { same = refl; are = are; most = omega arith; entries = e; left = all; front = refl; back = refl }
-
--- a part of a part that begins after what changed
-slice-again : (s t : Bytes) (from to : ℕ) → from ≤ to → drop from s ≡ drop from t → slice from to s ≡ slice from to t
-slice-again s t from to h e = sym (lent-slice s from to h) ∙ ap (take (to - from)) e ∙ lent-slice t from to h
 
 drop-again : (s t : Bytes) (from to : ℕ) → from ≤ to → drop from s ≡ drop from t → drop to s ≡ drop to t
 drop-again s t from to h e =

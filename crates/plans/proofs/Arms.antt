@@ -1,9 +1,8 @@
 -- The arms of a record's moves: what each asks of its record, and that it makes the plan of the kind.
 use mathlib.Core.Path.{_≡_, refl, sym, ap, _∙_, subst}
-use mathlib.Core.Bool.{Bool, true, false, cond, _&&_, _||_, not, or-true}
-use mathlib.Core.List.{List, [], _∷_, _++_}
-use mathlib.Core.Option.{Option, none, some}
-use Prim.Native.Nat.{ℕ, _+_, _≤_, _<_}
+use mathlib.Core.Bool.{Bool, true, false, cond, _||_, not, or-true}
+use mathlib.Core.List.{List, [], _∷_}
+use Prim.Native.Nat.{ℕ, _≤_, _<_}
 use native.Mathlib.Omega.{arith}
 use borrow.Author.Tests.{lt-ltb, le-ltb}
 use lib.Dec.{eqb, ltb}
@@ -15,7 +14,7 @@ use Rattle.model.specs.Kind.{kindNumber}
 use Rattle.model.specs.Shape.{rowsOf, shapeOf}
 use Rattle.model.specs.Record.{Rec, rec}
 use Rattle.model.specs.Key.{nodeKey}
-use Rattle.model.specs.Contents.{Entry, storable, isConfig, isQuota, isBare, typesInOrder}
+use Rattle.model.specs.Contents.{Entry, storable, isConfig, isBare, typesInOrder}
 use Rattle.model.specs.Move.{Move, putM, dropM, joinM, leaveM, setOrDrop, joinOrLeave, sortedQuota, storedNext, isAbove, atEpoch, brokerAt, plan}
 use Rattle.model.specs.declared.Kind.{Kind}
 use Rattle.model.specs.declared.Kind.the-variants.{BrokerRegistration, ClientQuota, ProducerIds, UnregisterBroker}
@@ -35,7 +34,7 @@ use Rattle.found.specs.Found.{queryKey}
 use Rattle.judge.proofs.Queries.{broker-key}
 use Rattle.moves.specs.Moves.{IsPlain}
 use Rattle.moves.proofs.Singles.{setMove}
-use Rattle.work.specs.Work.{Good, heldIn, Made}
+use Rattle.work.specs.Work.{Good, Made}
 use Rattle.work.specs.declared.Room.{Room}
 use Rattle.work.proofs.Made.{made-none}
 

@@ -1,35 +1,34 @@
 -- A record that Read accepts, by its kind number: as a record among entries, and its plan.
 use mathlib.Core.Path.{_≡_, refl, sym, ap, ap₂, _∙_, subst}
-use mathlib.Core.Bool.{Bool, true, false, cond, _||_}
+use mathlib.Core.Bool.{Bool, true, false, _||_}
 use mathlib.Core.List.{List, [], _∷_, _++_}
-use Prim.Native.Nat.{ℕ, _+_, _*_, _≤_, _<_}
+use Prim.Native.Nat.{_+_, _≤_}
 use native.Mathlib.Omega.{arith}
 use lib.Dec.{eqb}
 use lib.ListN.{length}
 use Rattle.model.specs.Choice.{isSome}
-use Rattle.model.specs.Number.{Bytes, AreBytes, number}
+use Rattle.model.specs.Number.{Bytes, number}
 use Rattle.model.specs.Run.{Run, field, value}
 use Rattle.model.specs.Kind.{kindNumber}
-use Rattle.model.specs.Shape.{rowsOf, shapeOf, logged, stored, fault}
-use Rattle.model.specs.Record.{Rec, rec, recordBytes}
-use Rattle.model.specs.Key.{nodeKey, nameKey}
+use Rattle.model.specs.Shape.{rowsOf, shapeOf}
+use Rattle.model.specs.Record.{rec}
 use Rattle.model.specs.Contents.{Entry, storable, isConfig}
-use Rattle.model.specs.Move.{Move, putM, dropM, topicM, partM, deleteM, bumpM, epochM, kraftM, updateMoves, setOrDrop, joinOrLeave, onReal, onEmpties, plan}
+use Rattle.model.specs.Move.{Move, dropM, topicM, partM, deleteM, bumpM, epochM, kraftM, updateMoves, joinOrLeave, onReal, onEmpties, plan}
 use Rattle.model.specs.declared.Kind.{Kind}
-use Rattle.model.specs.declared.Kind.the-variants.{Topic, Partition, BrokerRegistration, TopicConfig, ClientMetricsConfig, GroupConfig, TopicFreeze, PartitionElr, PartitionRecovery, PartitionUpdate, DeleteTopic, BrokerConfig, ClientQuota, KRaftVersion, FeatureLevel, FeaturesEpoch, ControllerRegistration, BreakGlassProposal, DeleteBreakGlassProposal, UnregisterController}
+use Rattle.model.specs.declared.Kind.the-variants.{Topic, Partition, BrokerRegistration, TopicConfig, ClientMetricsConfig, GroupConfig, TopicFreeze, PartitionElr, PartitionRecovery, PartitionUpdate, DeleteTopic, BrokerConfig, KRaftVersion, FeatureLevel, FeaturesEpoch, ControllerRegistration, BreakGlassProposal, DeleteBreakGlassProposal, UnregisterController}
 use Rattle.laws.specs.Choice.{impossible}
 use Rattle.laws_records.specs.Stored.{fault-stored}
-use Rattle.laws_image.specs.Groups.{Grouped, config, quota}
+use Rattle.laws_image.specs.Groups.{Grouped, config}
 use Rattle.keys.specs.Keys.{kindIn, runIn}
 use Rattle.entries.specs.Entries.{IsRecord, recordIn}
 use Rattle.entries.proofs.Changes.{record-in}
 use Rattle.found.specs.Found.{Query, queryKey}
 use Rattle.judge.specs.Judge.{IsLogged, loggedIn}
-use Rattle.judge.proofs.Logged.{headed, logged-in, kind-in, run-in, passes, kind-is, value-of}
+use Rattle.judge.proofs.Logged.{logged-in, run-in, passes, kind-is, value-of}
 use Rattle.judge.proofs.Queries.{controller-query, controller-key, proposal-query, proposal-key}
 use Rattle.moves.specs.Moves.{IsPlain}
 use Rattle.moves.proofs.Singles.{setMove}
-use Rattle.work.specs.Work.{Good, heldIn, mostRecord, Made}
+use Rattle.work.specs.Work.{Good, heldIn, Made}
 use Rattle.work.specs.declared.Room.{Room}
 use Rattle.work.proofs.Made.{made-none, made-one, made-then}
 use Rattle.plans.proofs.Arms.{same-moves}

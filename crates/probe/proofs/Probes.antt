@@ -1,18 +1,18 @@
 -- What is written makes the probe, and the probe has the key that its fields make.
-use mathlib.Core.Path.{_≡_, refl, sym, ap, ap₂, _∙_}
-use mathlib.Core.List.{[], _∷_, _++_, append-assoc, append-nil}
+use mathlib.Core.Path.{_≡_, ap, ap₂, _∙_}
+use mathlib.Core.List.{_++_, append-nil}
 use mathlib.Core.Option.{some}
 use Prim.Native.Nat.{ℕ, _+_, _≤_, _<_}
 use native.Mathlib.Omega.{arith}
 use lib.ListN.{length, take, drop, length-append}
 use lib.Seq.{take-at}
-use Rattle.model.specs.Number.{Bytes, bytes}
-use Rattle.model.specs.Run.{Run, runOf, bytesOf}
+use Rattle.model.specs.Number.{Bytes}
+use Rattle.model.specs.Run.{bytesOf}
 use Rattle.model.specs.Kind.{kindOf}
 use Rattle.model.specs.Key.{keyOf}
 use Rattle.model.specs.declared.Kind.{Kind}
 use Rattle.laws_records.specs.Runs.{run-bytes}
-use Rattle.keys.specs.Keys.{kindIn, runIn, keyIn, WidthsFit, Keyed}
+use Rattle.keys.specs.Keys.{runIn, keyIn, WidthsFit, Keyed}
 use Rattle.records.specs.Answers.{written, head}
 use Rattle.records.proofs.Written.{written-append}
 use Rattle.probe.specs.Probe.{probeRun, probeSize, probeBytes}

@@ -1,10 +1,9 @@
 -- A number equals itself and no other value does; bits of a number go there and back.
-use mathlib.Core.Path.{_≡_, refl, sym, _∙_}
-use mathlib.Core.Bool.{Bool, true, false, cond, _&&_, _||_, not, Bool·beq}
-use Prim.Native.Nat.{ℕ, _+_, _*_, _^_, _<_}
+use mathlib.Core.Path.{_≡_, refl}
+use mathlib.Core.Bool.{Bool, true, false, not}
+use Prim.Native.Nat.{ℕ, _^_, _<_}
 use borrow.Author.Tests.{eq-eqb}
-use lib.Dec.{T, eqb}
-use lib.Ieee.{Float, nan, inf, fin, binary64, eq, isNan, nanBits, ofBits, toBits, level, top}
+use lib.Ieee.{Float, nan, inf, fin, binary64, eq, isNan, nanBits}
 use lib.Ieee.Bits.{toBits-ofBits, nanBits-is}
 use Rattle.quota.specs.Quota.{quotaOf, bitsOf}
 

@@ -1,7 +1,7 @@
 -- The quota answer: 01, "The quota value is a double and keeps its bits".
-use mathlib.Core.Bool.{Bool, true, false, cond, _&&_, not}
+use mathlib.Core.Bool.{true, false, cond, _&&_, not}
 use Prim.Native.Nat.{ℕ}
-use lib.Ieee.{Float, binary64, ofBits, toBits, isNan, nanBits}
+use lib.Ieee.{binary64, ofBits, toBits, isNan, nanBits}
 use Rattle.quota.specs.declared.Quota.{Quota}
 
 -- of bits: their number, or none

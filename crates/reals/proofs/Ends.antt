@@ -5,18 +5,18 @@ use mathlib.Core.List.{map}
 use Prim.Native.Nat.{ℕ, _+_, _-_, _≤_}
 use native.Mathlib.Omega.{arith}
 use lib.ListN.{length, take, drop}
-use lib.Seq.{slice, length-slice, take-take}
+use lib.Seq.{slice, length-slice}
 use Rattle.model.specs.Number.{Bytes, AreBytes}
 use Rattle.model.specs.Image.{headSize, usedIn, itemsIn, entryOf, realOf, emptiesOf, contentsOf, isImage}
 use Rattle.model.specs.Items.{records}
 use Rattle.model.specs.Choice.{every}
 use Rattle.model.specs.Map.{any, ascending}
-use Rattle.model.specs.Contents.{kept, key, recordKey, isGroup, inGroupOf, namedApart, storableEntry, sound}
+use Rattle.model.specs.Contents.{key, recordKey, isGroup, inGroupOf, namedApart, storableEntry, sound}
 use Rattle.laws.specs.Choice.{and-left}
 use Rattle.laws_image.specs.Entries.{ascending-entries}
 use Rattle.laws_image.specs.Tests.{capacity-least, image-holds}
 use Rattle.laws_image.specs.Exact.{kept-back}
-use Rattle.fields.proofs.Parse.{take-drop, take-slice}
+use Rattle.fields.proofs.Parse.{take-slice}
 use Rattle.keys.proofs.Found.{lent-slice}
 use Rattle.entries.specs.Entries.{recordsIn, Entries}
 use Rattle.stored.specs.Stored.{Parted}

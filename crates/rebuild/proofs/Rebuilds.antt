@@ -9,8 +9,8 @@ use lib.ListN.{length, take}
 use Rattle.model.specs.Number.{Bytes, AreBytes}
 use Rattle.model.specs.Order.{sameBytes}
 use Rattle.model.specs.Image.{isImage, contentsOf, imageOf}
-use Rattle.model.specs.Reply.{Reply, accepted, refused, Ended, unchanged}
-use Rattle.model.specs.Snapshot.{emit, snapshot, snapshotOf, restored, restoreOf}
+use Rattle.model.specs.Reply.{accepted, unchanged}
+use Rattle.model.specs.Snapshot.{emit, snapshot, snapshotOf, restoreOf}
 use Rattle.laws.specs.Order.{sameBytes-true}
 use Rattle.laws_image.specs.Exact.{image-back}
 use Rattle.laws_restore.specs.Cut.{cut-becomes-restored}

@@ -1,5 +1,5 @@
 -- A restore leaves settled contents as they are.
-use mathlib.Core.Path.{_≡_, refl, sym, ap, _∙_}
+use mathlib.Core.Path.{_≡_, refl, sym}
 use mathlib.Core.Bool.{Bool, true, false, cond, _&&_}
 use mathlib.Core.List.{List, [], map}
 use Prim.Native.Nat.{ℕ, _-_}
@@ -8,13 +8,11 @@ use lib.Dec.{eqb}
 use Rattle.model.specs.Choice.{every}
 use Rattle.model.specs.Number.{Bytes, span, isNegative}
 use Rattle.model.specs.Order.{sameBytes}
-use Rattle.model.specs.Key.{topicKey}
-use Rattle.model.specs.Map.{get}
 use Rattle.model.specs.Contents.{Entry, topic, part, plain, key, Contents, partitions, namesId}
 use Rattle.model.specs.Snapshot.{restoredFactor, lastOwner, ownerOf, restoredEntry, levels, lessOne, restoredEpoch, restored}
 use Rattle.laws.specs.Choice.{and-left, and-right}
 use Rattle.laws.specs.Order.{sameBytes-self, sameBytes-true}
-use Rattle.laws.specs.Lists.{All, In, all-in, in-all, every-true, map-same, folded-still}
+use Rattle.laws.specs.Lists.{In, all-in, in-all, every-true, map-same, folded-still}
 use Rattle.laws.specs.Map.{in-get}
 use Rattle.laws_image.specs.Orderly.{names, Orderly}
 use Rattle.settled.specs.Settled.{settledEntry}

@@ -4,12 +4,11 @@ use mathlib.Core.Bool.{Bool, true, false}
 use mathlib.Core.List.{[], map}
 use Prim.Native.Nat.{ℕ, _+_, _-_, _≤_, _<_}
 use native.Mathlib.Omega.{arith}
-use borrow.Author.Tests.{le-leb, lt-leb}
-use lib.Dec.{leb}
+use borrow.Author.Tests.{lt-leb}
 use lib.ListN.{length, take, drop, drop-of-length-le}
 use lib.Seq.{slice, length-slice}
 use Rattle.model.specs.Choice.{every}
-use Rattle.model.specs.Number.{Bytes, AreBytes, span, half, isNegative}
+use Rattle.model.specs.Number.{Bytes, AreBytes, span, half}
 use Rattle.model.specs.Map.{ascending}
 use Rattle.model.specs.Contents.{recordKey}
 use Rattle.model.specs.Image.{headSize, usedIn, fixedIn, entryOf, emptiesOf, contentsOf, isImage}

@@ -1,5 +1,6 @@
 pub mod Bases
 pub mod Reading
+pub mod Replies
 pub mod Written
 pub mod Growing
 pub mod Bodies

@@ -13,8 +13,6 @@ use words::say_field;
 use words::say_number;
 use words::say_of;
 use words::say_signed;
-ghost use Prim.Native.Nat.{_≤_};
-ghost use lib.ListN.{length};
 
 const PARTITION: u8 = 2;
 

@@ -24,10 +24,11 @@ use Rattle.laws_image.specs.Open.{fresh-fits}
 use Rattle.laws_apply.specs.MovedFits.{fits-holds}
 use Rattle.keys.proofs.Found.{lent-slice, slice-rest}
 use Rattle.judge.specs.Judge.{loggedIn}
-use Rattle.validate.proofs.Verdicts.{it, logged-is, refused-bad}
+use Rattle.validate.proofs.Verdicts.{it, logged-is}
 use Rattle.work.specs.Work.{Good}
 use Rattle.rebuild.specs.Rebuild.{Rebuilt}
 use Rattle.attempt.specs.Step.{stateIn, Holding, outcome, StillHolding}
+use Rattle.records.proofs.Replies.{refused-bad}
 use Rattle.restore.specs.Restore.{NextIs, replayed, wholeContents, Whole, RanAs}
 use Rattle.attempt.specs.declared.State.{State}
 use Rattle.attempt.specs.declared.Tried.{Tried}

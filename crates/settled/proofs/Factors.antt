@@ -1,6 +1,6 @@
 -- The replication factor that a restore gives a topic, record by record: a partition of the topic sets it, and nothing else does.
 use mathlib.Core.Path.{_≡_, refl, sym, ap, _∙_}
-use mathlib.Core.Bool.{Bool, true, false, cond, _&&_}
+use mathlib.Core.Bool.{Bool, true, false, cond}
 use mathlib.Core.List.{List, [], _∷_}
 use Prim.Native.Nat.{ℕ}
 use native.Mathlib.Omega.{arith}
@@ -13,13 +13,12 @@ use Rattle.model.specs.Run.{Run, value}
 use Rattle.model.specs.Kind.{kindNumber}
 use Rattle.model.specs.Record.{Rec}
 use Rattle.model.specs.Key.{rank, subject, keyOf, keyRank, keyName}
-use Rattle.model.specs.Contents.{Entry, topic, part, plain, recordKey, ofTopic}
+use Rattle.model.specs.Contents.{topic, part, plain, recordKey, ofTopic}
 use Rattle.model.specs.Image.{entryOf}
 use Rattle.model.specs.Move.{replicas, nodeCount}
 use Rattle.model.specs.Snapshot.{lastFactor, restoredFactor}
-use Rattle.model.specs.declared.Kind.{Kind}
 use Rattle.model.specs.declared.Kind.the-variants.{Partition}
-use Rattle.laws.specs.Choice.{and-left, and-right}
+use Rattle.laws.specs.Choice.{and-left}
 use Rattle.laws.specs.Lists.{All}
 use Rattle.laws_records.specs.Kinds.{number-injective}
 use Rattle.laws_image.specs.Ranks.{rank-injective, key-rank}

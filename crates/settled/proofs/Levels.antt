@@ -1,5 +1,5 @@
 -- No entry is a level: a walk's turns, and what it says of the levels' number.
-use mathlib.Core.Path.{_≡_, refl, sym, ap, _∙_}
+use mathlib.Core.Path.{_≡_, refl, sym, _∙_}
 use mathlib.Core.Bool.{true, false, not}
 use mathlib.Core.List.{List, [], _∷_, map}
 use Prim.Native.Nat.{ℕ, _-_}
@@ -11,18 +11,17 @@ use Rattle.model.specs.Choice.{every}
 use Rattle.model.specs.Number.{Bytes}
 use Rattle.model.specs.Kind.{kindNumber}
 use Rattle.model.specs.Record.{Rec}
-use Rattle.model.specs.Key.{rank, keyRank}
-use Rattle.model.specs.Map.{count}
-use Rattle.model.specs.Contents.{Entry, key, recordKey}
+use Rattle.model.specs.Key.{rank}
+use Rattle.model.specs.Contents.{key}
 use Rattle.model.specs.Image.{entryOf}
 use Rattle.model.specs.Snapshot.{isLevel, levels}
 use Rattle.model.specs.declared.Kind.the-variants.{FeatureLevel}
 use Rattle.laws.specs.Choice.{impossible}
-use Rattle.laws.specs.Lists.{All, all-imp, every-true}
+use Rattle.laws.specs.Lists.{All, every-true}
 use Rattle.laws.specs.Count.{count-none}
 use Rattle.laws_image.specs.Entries.{entry-key}
 use Rattle.laws_image.specs.Ranks.{rank-injective, key-rank}
-use Rattle.entries.specs.Entries.{recordsIn, recordIn}
+use Rattle.entries.specs.Entries.{recordIn}
 use Rattle.entries.specs.declared.Cursor.{Cursor}
 use Rattle.entries.proofs.Turns.{Stands}
 use Rattle.stored.proofs.Turns.{entry-is}

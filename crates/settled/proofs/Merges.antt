@@ -15,7 +15,7 @@ use Rattle.model.specs.Kind.{kindNumber}
 use Rattle.model.specs.Shape.{stored, fault, rowsOf, shapeOf}
 use Rattle.model.specs.Record.{Rec}
 use Rattle.model.specs.Map.{count}
-use Rattle.model.specs.Contents.{Entry, topic, part, plain, key, recordKey, ofTopic, partitions}
+use Rattle.model.specs.Contents.{part, plain, recordKey, ofTopic, partitions}
 use Rattle.model.specs.Image.{entryOf}
 use Rattle.model.specs.declared.Kind.the-variants.{Topic}
 use Rattle.laws.specs.Choice.{and-left, and-right}
@@ -32,7 +32,8 @@ use Rattle.entries.proofs.Turns.{Stands}
 use Rattle.counts.specs.Counts.{Counted}
 use Rattle.counts.proofs.Tallies.{next-end, list}
 use Rattle.counts.proofs.Topics.{IsTopic, topic-kind, topics-ascend, kind-here, run-here}
-use Rattle.counts.proofs.Merges.{Merged, rest-lent, number-is}
+use Rattle.counts.proofs.Merges.{Merged, number-is}
+use Rattle.keys.proofs.Found.{rest-lent}
 use Rattle.settled.specs.Settled.{settledEntry, settledRecord, factorOf, Factored}
 
 -- 1. Records
@@ -122,7 +123,7 @@ module _ {s : Bytes} {at from start end : ℕ} {next : Cursor} (h : Aligned s at
         (p : Counted (take (length s - from) (drop from s)) (value 1 (runIn (take (end - start) (drop start s)))) n to × Factored (take (length s - from) (drop from s)) (value 1 (runIn (take (end - start) (drop start s)))) (number (value 4 (runIn (take (end - start) (drop start s))))) f to) where
       factored : Factored (drop from s) (value 1 (t .entry .entry .run)) (number (value 4 (t .entry .entry .run))) f to
       factored =
-          subst (λ x. Factored x (value 1 (t .entry .entry .run)) (number (value 4 (t .entry .entry .run))) f to) (rest-lent s from (h .merged .far))
+          subst (λ x. Factored x (value 1 (t .entry .entry .run)) (number (value 4 (t .entry .entry .run))) f to) (rest-lent from s)
           (subst (λ x. Factored (take (length s - from) (drop from s)) (value 1 x) (number (value 4 x)) f to) (run-here t) (p .1))
 
       factor-is : f ≡ factorOf (value 1 (t .entry .entry .run)) (number (value 4 (t .entry .entry .run))) (recordsIn s)

@@ -1,8 +1,8 @@
 -- The factor along a walk: what is taken so far, with the entries still to come, gives all entries' factor.
 use mathlib.Core.Path.{_≡_, refl, sym, ap, _∙_, subst}
-use mathlib.Core.Bool.{true, false}
-use mathlib.Core.List.{List, [], _∷_}
-use Prim.Native.Nat.{ℕ, _-_, _≤_, Ordering, Ordering·lt, Ordering·eq, Ordering·gt}
+use mathlib.Core.Bool.{false}
+use mathlib.Core.List.{_∷_}
+use Prim.Native.Nat.{ℕ, _-_, _≤_, Ordering·lt, Ordering·gt}
 use native.Mathlib.Omega.{arith}
 use lib.ListN.{length, take, drop, drop-of-length-le}
 use Rattle.model.specs.Number.{Bytes}

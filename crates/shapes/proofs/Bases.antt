@@ -1,14 +1,12 @@
 -- The base of a kind number: by computation for each kind, none above them, and one stored shape that differs.
 use mathlib.Core.Path.{_≡_, refl, sym, _∙_}
-use mathlib.Core.Bool.{Bool, true, false}
 use mathlib.Core.Option.{Option, none, some}
 use Prim.Native.Nat.{ℕ, zero, suc, _≤_}
 use native.Mathlib.Omega.{arith}
 use borrow.Author.Tests.{ne-eqb}
-use lib.Dec.{eqb}
 use Rattle.model.specs.Choice.{given}
 use Rattle.model.specs.Kind.{kindOf, kinds, kindNumber}
-use Rattle.model.specs.Shape.{recordOf, logged, stored, shapeOf}
+use Rattle.model.specs.Shape.{logged, stored, shapeOf}
 use Rattle.model.specs.declared.Kind.{Kind}
 use Rattle.laws.specs.Lists.{getElem?-past}
 use Rattle.laws_records.specs.Kinds.{number-kind}

@@ -9,7 +9,7 @@ use lib.Dec.{eqb}
 use lib.ListN.{length, take, drop, getD, length-append}
 use lib.Seq.{slice, length-slice}
 use Rattle.model.specs.Number.{Bytes}
-use Rattle.model.specs.Reply.{Reply, accepted, refused, Ended, emitBytes}
+use Rattle.model.specs.Reply.{accepted, refused, emitBytes}
 use Rattle.keys.proofs.Found.{lent-slice}
 use Rattle.records.specs.Answers.{head, written}
 use Rattle.records.proofs.Written.{written-append}

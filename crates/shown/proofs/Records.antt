@@ -1,31 +1,24 @@
 -- A stored record's bytes without its flag are the record that its entry is returned as.
-use mathlib.Core.Path.{_≡_, refl, sym, ap, ap₂, _∙_}
-use mathlib.Core.Bool.{Bool, true, false, cond}
-use mathlib.Core.List.{List, [], _∷_, _++_, append-assoc, append-nil}
-use Prim.Native.Nat.{ℕ, _+_, _-_, _≤_}
+use mathlib.Core.Path.{_≡_, refl, sym, ap, _∙_}
+use mathlib.Core.Bool.{Bool, true, false}
+use mathlib.Core.List.{_++_}
+use Prim.Native.Nat.{ℕ, _+_, _-_}
 use native.Mathlib.Omega.{arith}
 use lib.Dec.{eqb}
-use lib.ListN.{length, take, drop, getD, length-append}
+use lib.ListN.{length, take, length-append}
 use lib.Seq.{slice, take-at}
 use Rattle.model.specs.Number.{Bytes, bytes, number}
 use Rattle.model.specs.Run.{Run, done, item, value, bytesOf}
 use Rattle.model.specs.Kind.{kindNumber}
-use Rattle.model.specs.Record.{Rec, rec, recordBytes}
-use Rattle.model.specs.Contents.{Entry, topic, part, plain, shown, kept, topicRun, flagBytes}
+use Rattle.model.specs.Record.{Rec, recordBytes}
+use Rattle.model.specs.Contents.{topic, shown, kept, topicRun, flagBytes}
 use Rattle.model.specs.Image.{entryOf}
-use Rattle.model.specs.declared.Kind.the-variants.{Topic}
-use Rattle.laws_image.specs.Kinds.{is-kind}
 use Rattle.fields.proofs.Parse.{take-drop}
 use Rattle.records.specs.Answers.{head}
-use Rattle.shown.specs.Shown.{flagSize, shownSize, shownBytes}
+use Rattle.laws_records.specs.Runs.{item-append}
+use Rattle.shown.specs.Shown.{flagSize, shownBytes}
 
 -- 1. A topic
-
--- bytes at the end of the last field's
-item-append : (tag : ℕ) (v : Bytes) (r longer : Run) (x : Bytes) → bytesOf longer ≡ bytesOf r ++ x → bytesOf (item tag v longer) ≡ bytesOf (item tag v r) ++ x
-unfolding bytesOf
-item-append tag v r longer x e =
-    ap (λ s. tag ∷ (bytes 2 (length v) ++ v ++ s)) e ∙ ap (λ s. tag ∷ s) (sym (append-assoc (bytes 2 (length v) ++ v) (bytesOf r) x))
 
 abbrev flag : Bool → Run
 flag named = item 5 (flagBytes named) done

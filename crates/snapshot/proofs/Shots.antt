@@ -1,7 +1,7 @@
 -- What a snapshot's answer says of its output: what it wrote is there, and a refusal is no 0.
 use mathlib.Core.Path.{_≡_, sym, ap}
 use mathlib.Core.Bool.{Bool, true, false, cond}
-use mathlib.Core.List.{List, [], _∷_, _++_}
+use mathlib.Core.List.{[], _∷_, _++_}
 use Prim.Native.Nat.{ℕ, _≤_}
 use native.Mathlib.Omega.{arith}
 use lib.Dec.{leb}
@@ -9,7 +9,7 @@ use lib.ListN.{length, drop, length-append}
 use Rattle.model.specs.Choice.{joined}
 use Rattle.model.specs.Number.{Bytes}
 use Rattle.model.specs.Image.{isImage, contentsOf}
-use Rattle.model.specs.Reply.{Reply, accepted, refused, Ended, unchanged, emitBytes}
+use Rattle.model.specs.Reply.{Reply, accepted, refused, unchanged, emitBytes}
 use Rattle.model.specs.Record.{recordBytes}
 use Rattle.model.specs.Snapshot.{emit, snapshot, snapshotOf}
 use Rattle.laws_records.specs.Emits.{emits, not-refused}

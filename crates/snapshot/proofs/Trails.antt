@@ -1,13 +1,10 @@
 -- The records of the fixed parts.
 use mathlib.Core.Path.{_≡_, refl, sym, ap, _∙_}
-use mathlib.Core.Bool.{Bool, true, false, cond}
 use mathlib.Core.List.{[], _++_, append-assoc}
 use Prim.Native.Nat.{ℕ, _+_, _≤_, _<_}
 use native.Mathlib.Omega.{arith}
 use borrow.Author.Tests.{lt-leb, le-leb, ne-eqb}
-use lib.Dec.{eqb}
 use lib.ListN.{length, take, drop}
-use Rattle.model.specs.Choice.{joined}
 use Rattle.model.specs.Number.{Bytes, bytes, half}
 use Rattle.model.specs.Run.{bytesOf}
 use Rattle.model.specs.Kind.{kindNumber}
@@ -15,7 +12,7 @@ use Rattle.model.specs.Record.{recordBytes}
 use Rattle.model.specs.Snapshot.{epochRecords, kraftRecords}
 use Rattle.laws.specs.Numbers.{length-bytes}
 use Rattle.records.specs.Answers.{written, head}
-use Rattle.records.proofs.Written.{written-nothing, written-append, length-written}
+use Rattle.records.proofs.Written.{written-nothing, written-append}
 use Rattle.snapshot.specs.Shown.{numberBytes, epochBytes, kraftBytes}
 
 -- 1. One number

@@ -1,26 +1,24 @@
 -- A node's config, by its place among the entries.
 use mathlib.Core.Path.{_≡_, refl, sym, ap, _∙_, subst}
-use mathlib.Core.List.{List, []}
+use mathlib.Core.List.{List}
 use mathlib.Core.Option.{Option, none, some}
 use Prim.Native.Nat.{ℕ, _+_, _-_, _≤_, _<_}
 use native.Mathlib.Omega.{arith}
 use lib.ListN.{length, take, drop}
 use lib.Seq.{slice, length-slice, drop-drop}
-use Rattle.model.specs.Choice.{given, orElse}
+use Rattle.model.specs.Choice.{given}
 use Rattle.model.specs.Number.{Bytes, AreBytes, bytes}
-use Rattle.model.specs.Order.{Key}
-use Rattle.model.specs.Run.{Run, runOf, field}
+use Rattle.model.specs.Run.{runOf, field}
 use Rattle.model.specs.Kind.{kindOf, kinds, kindNumber}
 use Rattle.model.specs.Key.{rank, keyOf, keyRank, subject, configKey}
 use Rattle.model.specs.Contents.{Entry}
 use Rattle.model.specs.Move.{runAt}
-use Rattle.model.specs.Lookup.{readI64, unlessNegative, defaultNode, configAt, throttle}
+use Rattle.model.specs.Lookup.{defaultNode, configAt, throttle}
 use Rattle.model.specs.declared.Kind.the-variants.{BrokerConfig}
 use Rattle.laws.specs.Numbers.{length-bytes}
 use Rattle.fields.specs.Fields.{fieldsFrom, held, Within, Inside}
 use Rattle.fields.specs.declared.Found.{Found}
 use Rattle.fields.specs.declared.Found.the-variants.{Part, Missing}
-use Rattle.fields.specs.declared.Cursor.{Cursor}
 use Rattle.keys.specs.Keys.{runIn}
 use Rattle.keys.proofs.Found.{lent-slice}
 use Rattle.entries.specs.Entries.{Entries, Placed}

@@ -11,7 +11,7 @@ use lib.ListN.{length, take, drop}
 use lib.Seq.{slice, length-slice}
 use Rattle.model.specs.Choice.{isSome}
 use Rattle.model.specs.Number.{Bytes, AreBytes, number, bytes, span}
-use Rattle.model.specs.Run.{done, item, field, value, setField}
+use Rattle.model.specs.Run.{done, item, value, setField}
 use Rattle.model.specs.Kind.{kindNumber}
 use Rattle.model.specs.Shape.{rowsOf, shapeOf, logged, stored, fault}
 use Rattle.model.specs.Record.{Rec, rec, recordBytes}

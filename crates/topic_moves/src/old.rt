@@ -14,7 +14,7 @@ ghost use Rattle.model.specs.Map.{get};
 ghost use Rattle.model.specs.Contents.{key};
 ghost use Rattle.model.specs.Move.{unnameOld, countOf};
 ghost use Rattle.keys.specs.Keys.{runIn};
-ghost use Rattle.entries.specs.Entries.{Entries, IsRecord};
+ghost use Rattle.entries.specs.Entries.{Entries};
 ghost use Rattle.judge.specs.Judge.{entriesIn};
 ghost use Rattle.work.specs.Work.{groupsIn, Good, heldIn};
 ghost use Rattle.topic_moves.specs.Old.{OldIs};

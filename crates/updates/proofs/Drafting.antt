@@ -10,9 +10,10 @@ use Rattle.fields.specs.Fields.{held, Within}
 use Rattle.fields.specs.declared.Found.{Found}
 use Rattle.fields.specs.declared.Found.the-variants.{Part, Missing}
 use Rattle.keys.specs.Keys.{kindIn, runIn}
-use Rattle.keys.proofs.Found.{lent-slice, value-part, value-missing, within-part}
+use Rattle.keys.proofs.Found.{lent-slice, value-part, value-missing}
 use Rattle.drafts.specs.Drafts.{spells, IsDraft, Drafted}
 use Rattle.drafts.proofs.Drafts.{held-draft, set-drafted}
+use Rattle.fields.proofs.Took.{within-part}
 use Rattle.updates.specs.Updates.{partitionOf}
 
 -- 1. Parts

@@ -1,7 +1,7 @@
 -- Validate, exit by exit.
 use mathlib.Core.Path.{_≡_, sym, ap, ap₂, _∙_}
 use mathlib.Core.Bool.{Bool, true, false, not}
-use mathlib.Core.List.{List, [], _∷_, map, append-nil}
+use mathlib.Core.List.{[], _∷_, map, append-nil}
 use Prim.Native.Nat.{ℕ, _-_, _≤_}
 use borrow.Author.Tests.{not-true, not-false}
 use lib.ListN.{length, take, drop}
@@ -9,33 +9,20 @@ use lib.Seq.{length-take-le}
 use Rattle.model.specs.Number.{Bytes, AreBytes}
 use Rattle.model.specs.Run.{done}
 use Rattle.model.specs.Shape.{logged}
-use Rattle.model.specs.Record.{Rec, rec, Got, bad, got, onGot, read, readOf}
+use Rattle.model.specs.Record.{Rec, rec, got, onGot, read, readOf}
 use Rattle.model.specs.Image.{headSize, entryOf, isImage, contentsOf}
 use Rattle.model.specs.Reply.{accepted, refused}
 use Rattle.model.specs.Validate.{judge, validateOf}
 use Rattle.model.specs.declared.Kind.the-variants.{Topic}
-use Rattle.laws.specs.Choice.{impossible}
 use Rattle.laws_records.specs.Records.{record-read, read-later}
 use Rattle.header.specs.Header.{numbered}
 use Rattle.entries.specs.Entries.{recordsIn}
 use Rattle.judge.specs.Judge.{IsLogged, loggedIn}
 use Rattle.reals.specs.Reals.{Reals}
 use Rattle.reals.proofs.Lent.{lent-held}
+use Rattle.records.proofs.Replies.{used-got, refused-bad}
 
 -- 1. The record
-
--- what Read's answer says of what was read
-pub refused-bad : (g : Got) (n : ℕ) → refused n ≡ onGot g refused (λ r used. accepted (used ∷ [])) → g ≡ bad n
-refused-bad (bad m) n e = ap bad (sym (ap (λ r. r .number) e))
-refused-bad (got r used) n e = let q : _≡_ {A = ℕ} 0 1 = ap (λ x. length (x .values)) e in impossible q
-
-used-got : (g : Got) (n : ℕ) → accepted (n ∷ []) ≡ onGot g refused (λ r used. accepted (used ∷ [])) → (r : Rec) × (g ≡ got r n)
-used-got (bad m) n e = let q : _≡_ {A = ℕ} 0 1 = sym (ap (λ x. length (x .values)) e) in impossible q
-used-got (got r used) n e = (r, ap (got r) (sym (ap (λ x. first (x .values)) e)))
-  where
-    first : List ℕ → ℕ
-    first [] = 0
-    first (x ∷ l) = x
 
 module _ (input : Bytes) (areBytes : AreBytes input) {n : ℕ} (e : accepted (n ∷ []) ≡ readOf input) where
   pub it : (r : Rec) × (read logged input ≡ got r n)

@@ -1,6 +1,6 @@
 -- The states of the UTF-8 test: 0 between sequences; 1, 2, 3 that many bytes are to follow; 4 to 7 after E0, ED, F0, F4; 8 no UTF-8.
 use Prim.Native.Nat.{ℕ}
-use mathlib.Core.Bool.{Bool, cond}
+use mathlib.Core.Bool.{cond}
 use lib.Dec.{leb, ltb, eqb}
 
 -- the state after a first byte

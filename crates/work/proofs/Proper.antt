@@ -1,8 +1,7 @@
 -- The entries that a work array holds read back, and their numbers fit their fields.
-use mathlib.Core.Path.{_≡_, refl, ap, subst}
-use mathlib.Core.Bool.{Bool, true, false, _||_, not}
-use mathlib.Core.List.{List, map}
-use lib.Dec.{eqb, leb}
+use mathlib.Core.Path.{_≡_, refl, subst}
+use mathlib.Core.Bool.{Bool, true, false}
+use lib.Dec.{eqb}
 use lib.ListN.{take}
 use lib.Seq.{slice}
 use Rattle.model.specs.Number.{Bytes, AreBytes, number}

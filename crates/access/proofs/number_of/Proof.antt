@@ -1,8 +1,9 @@
 -- `access::number_of` meets its contract, by what was found.
 use native.Mathlib.Omega.{arith}
 use borrow.Author.Needs.{needs}
+use Rattle.fields.proofs.Took.{within-part}
 use Rattle.access.specs.Access.{numbered, Below}
-use Rattle.access.proofs.Values.{within-part, number-missing, number-part, number-other}
+use Rattle.access.proofs.Values.{number-missing, number-part, number-other}
 use Rattle.access.proofs.number_of.Statement.{statement}
 use Rattle.access.proofs.number_of.Tie as tie
 

@@ -4,11 +4,6 @@ use lib.Seq.{length-take-le}
 use borrow.Author.Needs.{needs}
 use Rattle.answer_lines.proofs.print_written.Statement.{statement}
 use Rattle.answer_lines.proofs.print_written.Tie as tie
-use Rattle.answer_lines.proofs.print_written.Reads as reads
-use Rattle.answer_lines.proofs.print_written.Lts as lts
-use Rattle.answer_lines.proofs.digest.Reads as digest-reads
-use Rattle.answer_lines.proofs.print_next.Reads as print-next-reads
-use Rattle.wire.proofs.wide.Reads as wide-reads
 
 enum-known-answer : tie.Need-enum-known-answer
 enum-known-answer c = search needs

@@ -1,18 +1,10 @@
 -- `arguments::read_options` ends, and stays in its buffers.
 use Prim.Native.Nat.{_-_, _≤_}
-use mathlib.Core.Path.{_≡_, sym}
-use native.Mathlib.Omega.{arith}
+use mathlib.Core.Path.{_≡_}
 use lib.ListN.{length}
-use lib.Seq.{length-take-le}
 use borrow.Author.Needs.{needs}
 use Rattle.arguments.proofs.read_options.Statement.{statement}
 use Rattle.arguments.proofs.read_options.Tie as tie
-use Rattle.arguments.proofs.read_options.Reads as reads
-use Rattle.arguments.proofs.read_options.Lts as lts
-use Rattle.arguments.proofs.defaults.Reads as defaults-reads
-use Rattle.arguments.proofs.ends_asking.Reads as ends-asking-reads
-use Rattle.arguments.proofs.with_argument.Reads as with-argument-reads
-use Rattle.os.proofs.arg_count.Reads as arg-count-reads
 
 abbrev Inv-loop : tie.InvT-loop
 Inv-loop path₀ options₀ i₀ count path options i = (length path ≡ length path₀) × (1 ≤ i)

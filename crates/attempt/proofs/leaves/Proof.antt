@@ -1,5 +1,4 @@
 -- `attempt::leaves` meets its contract.
-use borrow.Author.Needs.{needs}
 use native.Mathlib.Omega.{arith}
 use mathlib.Core.List.{[]}
 use Rattle.judge.proofs.Logged.{headed}

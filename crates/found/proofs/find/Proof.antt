@@ -1,6 +1,6 @@
 -- `found::find` meets its contract: the place of the probe's key.
 use borrow.Author.Needs.{needs}
-use Rattle.found.proofs.Finds.{query-size, lent-length, lent-probe, lent-place}
+use Rattle.found.proofs.Finds.{lent-length, lent-probe, lent-place}
 use Rattle.found.proofs.find.Statement.{statement}
 use Rattle.found.proofs.find.Tie as tie
 

@@ -1,16 +1,10 @@
 -- `inspect::inspect_at` ends, and stays in its buffers.
-use Prim.Native.Nat.{_-_, _≤_}
-use mathlib.Core.Path.{_≡_, sym}
-use native.Mathlib.Omega.{arith}
-use lib.ListN.{length}
+use Prim.Native.Nat.{_-_}
+use mathlib.Core.Path.{sym}
 use lib.Seq.{length-take-le}
 use borrow.Author.Needs.{needs}
 use Rattle.inspect.proofs.inspect_at.Statement.{statement}
 use Rattle.inspect.proofs.inspect_at.Tie as tie
-use Rattle.inspect.proofs.inspect_at.Reads as reads
-use Rattle.inspect.proofs.inspect_at.Lts as lts
-use Rattle.inspect.proofs.inspect.Reads as inspect-reads
-use Rattle.words.proofs.complain.Reads as complain-reads
 
 slice-aggregate-complain : tie.Need-slice-aggregate-complain
 slice-aggregate-complain c = search needs

@@ -1,18 +1,11 @@
 -- `inspect::main` ends, and stays in its buffers.
-use Prim.Native.Nat.{_-_, _≤_}
-use mathlib.Core.Path.{_≡_, sym}
+use Prim.Native.Nat.{_-_}
+use mathlib.Core.Path.{sym}
 use native.Mathlib.Omega.{arith}
-use lib.ListN.{length}
 use lib.Seq.{length-take-le}
 use borrow.Author.Needs.{needs}
 use Rattle.inspect.proofs.main.Statement.{statement}
 use Rattle.inspect.proofs.main.Tie as tie
-use Rattle.inspect.proofs.main.Reads as reads
-use Rattle.inspect.proofs.main.Lts as lts
-use Rattle.inspect.proofs.inspect_path.Reads as inspect-path-reads
-use Rattle.arguments.proofs.read_options.Reads as read-options-reads
-use Rattle.words.proofs.complain.Reads as complain-reads
-use Rattle.io.proofs.buffer.Reads as buffer-reads
 
 buffer-requires : tie.Need-buffer-requires
 buffer-requires c κs = search needs

@@ -1,7 +1,5 @@
 -- `keys::compare_by` meets its contract, form by form.
 use borrow.Author.Needs.{needs}
-use mathlib.Core.Path.{_≡_, refl, sym, ap, ap₂, _∙_}
-use native.Mathlib.Omega.{arith}
 use borrow.Author.Tests.{ne-eqb}
 use Rattle.keys.proofs.compare_by.Statement.{statement}
 use Rattle.keys.proofs.compare_by.Tie as tie

@@ -1,7 +1,6 @@
 -- `keys::compare_field` meets its contract: the two parts are the two values.
 use borrow.Author.Needs.{needs}
-use mathlib.Core.Path.{_≡_, refl, sym, ap, ap₂, _∙_}
-use native.Mathlib.Omega.{arith}
+use mathlib.Core.Path.{ap₂, _∙_}
 use Rattle.model.specs.Order.{compareBytes}
 use Rattle.keys.proofs.Found.{lent-slice}
 use Rattle.keys.proofs.compare_field.Statement.{statement}

@@ -1,6 +1,6 @@
 -- `keys::compare_keys` meets its contract: ranks decide, and within a rank what tells its entries apart.
 use borrow.Author.Needs.{needs}
-use mathlib.Core.Path.{_≡_, refl, sym, ap, ap₂, _∙_}
+use mathlib.Core.Path.{_≡_, _∙_}
 use native.Mathlib.Omega.{arith}
 use Rattle.keys.proofs.Keys.{rank-less, rank-greater, same-order, both-fit, known-bytes}
 use Rattle.keys.proofs.compare_keys.Statement.{statement}

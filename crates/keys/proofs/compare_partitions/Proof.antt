@@ -1,6 +1,5 @@
 -- `keys::compare_partitions` meets its contract: places are in the order of the numbers.
 use borrow.Author.Needs.{needs}
-use mathlib.Core.Path.{_≡_, refl, sym, ap, ap₂, _∙_}
 use native.Mathlib.Omega.{arith}
 use Rattle.keys.proofs.Orders.{single-less, single-greater, single-equal}
 use Rattle.keys.proofs.compare_partitions.Statement.{statement}

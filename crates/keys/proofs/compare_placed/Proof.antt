@@ -1,6 +1,6 @@
 -- `keys::compare_placed` meets its contract: the partition's number decides where the topics are the same.
 use borrow.Author.Needs.{needs}
-use mathlib.Core.Path.{_≡_, refl, sym, ap, ap₂, _∙_}
+use mathlib.Core.Path.{_∙_}
 use Rattle.keys.proofs.Orders.{first-less, first-equal, first-greater}
 use Rattle.keys.proofs.compare_placed.Statement.{statement}
 use Rattle.keys.proofs.compare_placed.Tie as tie

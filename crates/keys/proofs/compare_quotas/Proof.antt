@@ -1,6 +1,6 @@
 -- `keys::compare_quotas` meets its contract: the config key decides where the entities are the same.
 use borrow.Author.Needs.{needs}
-use mathlib.Core.Path.{_≡_, refl, sym, ap, ap₂, _∙_}
+use mathlib.Core.Path.{_∙_}
 use Rattle.keys.proofs.Orders.{first-less, first-equal, first-greater}
 use Rattle.keys.proofs.compare_quotas.Statement.{statement}
 use Rattle.keys.proofs.compare_quotas.Tie as tie

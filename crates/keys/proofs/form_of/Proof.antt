@@ -1,5 +1,4 @@
 -- `keys::form_of` meets its contract: each kind's form computes, and the refused range is past the last kind.
-use mathlib.Core.Path.{_≡_, refl, sym, ap, ap₂, _∙_}
 use Rattle.model.specs.Kind.{kindOf, kinds}
 use Rattle.laws.specs.Refused.{no-kind}
 use Rattle.keys.specs.Forms.{formOf, keyForm}

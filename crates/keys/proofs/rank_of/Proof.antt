@@ -1,5 +1,4 @@
 -- `keys::rank_of` meets its contract: each kind's rank computes, and the refused range is past the last kind.
-use mathlib.Core.Path.{_≡_, refl, sym, ap, ap₂, _∙_}
 use Rattle.model.specs.Kind.{kindOf, kinds}
 use Rattle.model.specs.Key.{rank}
 use Rattle.laws.specs.Refused.{no-kind}

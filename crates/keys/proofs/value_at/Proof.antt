@@ -1,9 +1,10 @@
 -- `keys::value_at` meets its contract: the field that `field` found is the value, and nothing is where it found none.
 use borrow.Author.Needs.{needs}
-use mathlib.Core.Path.{_≡_, refl, sym, ap, _∙_}
+use mathlib.Core.Path.{ap, _∙_}
 use native.Mathlib.Omega.{arith}
 use Rattle.model.specs.Run.{runOf, field, value}
-use Rattle.keys.proofs.Found.{slice-rest, value-part, value-missing, within-part}
+use Rattle.fields.proofs.Took.{within-part}
+use Rattle.keys.proofs.Found.{slice-rest, value-part, value-missing}
 use Rattle.keys.proofs.value_at.Statement.{statement}
 use Rattle.keys.proofs.value_at.Tie as tie
 

@@ -1,6 +1,6 @@
 -- `lookup::broker` meets its contract.
 use borrow.Author.Needs.{needs}
-use mathlib.Core.Path.{ap, _∙_}
+use mathlib.Core.Path.{ap}
 use lib.ListN.{length}
 use Rattle.judge.proofs.Queries.{broker-query}
 use Rattle.lookup.proofs.Answers.{broker-no-image, image-is, broker-found}

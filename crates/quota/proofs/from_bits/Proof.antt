@@ -1,8 +1,6 @@
 -- `quota::from_bits` meets its contract, by whether the bits spell a number.
 use borrow.Author.Needs.{needs}
-use mathlib.Core.Path.{_≡_, refl, sym, _∙_, subst}
-use mathlib.Core.Bool.{Bool, not}
-use lib.Dec.{T}
+use mathlib.Core.Path.{sym, _∙_}
 use Rattle.quota.specs.Quota.{quotaOf}
 use Rattle.quota.proofs.from_bits.Statement.{statement}
 use Rattle.quota.proofs.from_bits.Tie as tie

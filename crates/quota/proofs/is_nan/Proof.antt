@@ -1,5 +1,5 @@
 -- `quota::is_nan` meets its contract: bits spell no number exactly above those of infinity, the sign left out.
-use mathlib.Core.Path.{_≡_, sym}
+use mathlib.Core.Path.{sym}
 use lib.Ieee.{binary64}
 use lib.Ieee.Bits.{nanBits-above}
 use Rattle.quota.proofs.is_nan.Statement.{statement}

@@ -1,5 +1,5 @@
 -- `quota::to_bits` meets its contract: a value that equals itself is a number.
-use mathlib.Core.Path.{_≡_, refl, sym, _∙_}
+use mathlib.Core.Path.{sym, _∙_}
 use Rattle.quota.specs.Quota.{bitsOf}
 use Rattle.quota.proofs.Values.{eq-self}
 use Rattle.quota.proofs.to_bits.Statement.{statement}

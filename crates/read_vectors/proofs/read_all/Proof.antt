@@ -1,5 +1,4 @@
 -- `read_vectors::read_all` stays in its buffers, and ends. The invariant: no buffer changes its length.
-use Prim.Native.Nat.{_≤_}
 use mathlib.Core.Path.{_≡_, refl, sym}
 use native.Mathlib.Omega.{arith}
 use lib.ListN.{length}

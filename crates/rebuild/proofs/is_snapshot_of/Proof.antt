@@ -8,11 +8,6 @@ use Rattle.keys.proofs.Keys.{known-bytes}
 use Rattle.rebuild.proofs.Rebuilds.{image-is, rebuilt}
 use Rattle.rebuild.proofs.is_snapshot_of.Statement.{statement}
 use Rattle.rebuild.proofs.is_snapshot_of.Tie as tie
-use Rattle.rebuild.proofs.is_snapshot_of.Reads as reads
-use Rattle.rebuild.proofs.is_snapshot_of.Lts as lts
-use Rattle.rebuild.proofs.is_steady.Reads as is-steady-reads
-use Rattle.snapshot.proofs.snapshot.Reads as snapshot-reads
-use Rattle.wire.proofs.same.Reads as same-reads
 
 snapshot-requires : tie.Need-snapshot-requires
 snapshot-requires c κs = search needs

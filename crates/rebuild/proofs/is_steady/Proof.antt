@@ -9,13 +9,6 @@ use Rattle.rebuild.proofs.Whole.{entries, ascends, raised, unraised-as}
 use borrow.Author.Needs.{needs}
 use Rattle.rebuild.proofs.is_steady.Statement.{statement}
 use Rattle.rebuild.proofs.is_steady.Tie as tie
-use Rattle.rebuild.proofs.is_steady.Reads as reads
-use Rattle.rebuild.proofs.is_steady.Lts as lts
-use Rattle.header.proofs.epoch_in.Reads as epoch-in-reads
-use Rattle.header.proofs.used_in.Reads as used-in-reads
-use Rattle.settled.proofs.has_no_level.Reads as has-no-level-reads
-use Rattle.settled.proofs.is_settled.Reads as is-settled-reads
-use Rattle.stored.proofs.tail_start.Reads as tail-start-reads
 
 -- the image is of bytes
 bytes-in : (c : tie.After-shared-slice-known) → AreBytes (c .before .args .image .now)

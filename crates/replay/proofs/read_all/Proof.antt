@@ -7,13 +7,6 @@ use lib.ListN.{length}
 use lib.Seq.{length-take-le}
 use Rattle.replay.proofs.read_all.Statement.{statement}
 use Rattle.replay.proofs.read_all.Tie as tie
-use Rattle.replay.proofs.read_all.Reads as reads
-use Rattle.replay.proofs.read_all.Lts as lts
-use Rattle.answer_lines.proofs.end_line.Reads as end-line-reads
-use Rattle.answer_lines.proofs.print_first.Reads as print-first-reads
-use Rattle.hex_lines.proofs.next_line.Reads as next-line-reads
-use Rattle.hex_lines.proofs.start.Reads as start-reads
-use Rattle.replay.proofs.answer.Reads as answer-reads
 
 abbrev Inv-loop : tie.InvT-loop
 Inv-loop bytes₀ work₀ out₀ chunk₀ input₀ capacity₀ place₀ bytes work out chunk input capacity place = (length bytes ≡ length bytes₀) × (length work ≡ length work₀) × (length out ≡ length out₀) × (length chunk ≡ length chunk₀)

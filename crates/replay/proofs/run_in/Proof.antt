@@ -4,10 +4,6 @@ use lib.Seq.{length-take-le}
 use borrow.Author.Needs.{needs}
 use Rattle.replay.proofs.run_in.Statement.{statement}
 use Rattle.replay.proofs.run_in.Tie as tie
-use Rattle.replay.proofs.run_in.Reads as reads
-use Rattle.replay.proofs.run_in.Lts as lts
-use Rattle.answer_lines.proofs.print_no_line.Reads as print-no-line-reads
-use Rattle.replay.proofs.run.Reads as run-reads
 
 print-no-line-requires : tie.Need-print-no-line-requires
 print-no-line-requires c κs = search needs

@@ -7,11 +7,6 @@ use Rattle.restore.proofs.Restoring.{no-capacity, capacity-kept, copied
 use borrow.Author.Needs.{needs}
 use Rattle.restore.proofs.restore.Statement.{statement}
 use Rattle.restore.proofs.restore.Tie as tie
-use Rattle.restore.proofs.restore.Reads as reads
-use Rattle.restore.proofs.restore.Lts as lts
-use Rattle.restore.proofs.restore_each.Reads as restore-each-reads
-use Rattle.header.proofs.is_capacity.Reads as is-capacity-reads
-use Rattle.rebuild.proofs.rebuild.Reads as rebuild-reads
 
 is-capacity-requires : tie.Need-is-capacity-requires
 is-capacity-requires c κs = search needs

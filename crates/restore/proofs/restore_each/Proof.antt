@@ -5,11 +5,6 @@ use Rattle.restore.proofs.Restoring.{done-lays, unread-lays, refused-wi
 use borrow.Author.Needs.{needs}
 use Rattle.restore.proofs.restore_each.Statement.{statement}
 use Rattle.restore.proofs.restore_each.Tie as tie
-use Rattle.restore.proofs.restore_each.Reads as reads
-use Rattle.restore.proofs.restore_each.Lts as lts
-use Rattle.restore.proofs.lay_whole.Reads as lay-whole-reads
-use Rattle.restore.proofs.run.Reads as run-reads
-use Rattle.lay.proofs.lay.Reads as lay-reads
 
 slice-aggregate-run : tie.Need-slice-aggregate-run
 slice-aggregate-run c = search needs

@@ -6,8 +6,6 @@ use Rattle.keys.specs.Keys.{runIn}
 use Rattle.settled.proofs.Numbers.{first-differs, second-differs, third-decides}
 use Rattle.settled.proofs.agrees.Statement.{statement}
 use Rattle.settled.proofs.agrees.Tie as tie
-use Rattle.settled.proofs.agrees.Reads as reads
-use Rattle.settled.proofs.agrees.Lts as lts
 
 number-at-requires : tie.Need-number-at-requires
 number-at-requires c κs = search needs

@@ -12,9 +12,6 @@ use Rattle.settled.specs.Settled.{isNoLevel}
 use Rattle.settled.proofs.Levels.{level-here, no-level-here}
 use Rattle.settled.proofs.has_no_level.Statement.{statement}
 use Rattle.settled.proofs.has_no_level.Tie as tie
-use Rattle.settled.proofs.has_no_level.Reads as reads
-use Rattle.settled.proofs.has_no_level.Lts as lts
-use Rattle.entries.proofs.Cursor.next.Reads as next-reads
 
 abbrev Inv-loop : tie.InvT-loop
 Inv-loop s c₀ c = Asked isNoLevel s (c .at)

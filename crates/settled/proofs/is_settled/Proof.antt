@@ -14,11 +14,6 @@ use Rattle.counts.proofs.Merges.{merged-start, left-lent, merged-other, to-fits
 use Rattle.settled.proofs.Merges.{Aligned, aligned-start, aligned-end, aligned-other, widths-here, aligned-fails, aligned-topic, count-low}
 use Rattle.settled.proofs.is_settled.Statement.{statement}
 use Rattle.settled.proofs.is_settled.Tie as tie
-use Rattle.settled.proofs.is_settled.Reads as reads
-use Rattle.settled.proofs.is_settled.Lts as lts
-use Rattle.entries.proofs.Cursor.next.Reads as next-reads
-use Rattle.settled.proofs.agrees.Reads as agrees-reads
-use Rattle.settled.proofs.tally_for.Reads as tally-for-reads
 
 abbrev Inv-loop : tie.InvT-loop
 Inv-loop s from₀ c₀ from c = Aligned s (c .at) from

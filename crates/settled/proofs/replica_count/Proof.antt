@@ -9,9 +9,6 @@ use Rattle.keys.proofs.Found.{part-length}
 use borrow.Author.Needs.{needs}
 use Rattle.settled.proofs.replica_count.Statement.{statement}
 use Rattle.settled.proofs.replica_count.Tie as tie
-use Rattle.settled.proofs.replica_count.Reads as reads
-use Rattle.settled.proofs.replica_count.Lts as lts
-use Rattle.keys.proofs.value_at.Reads as value-at-reads
 
 value-at-requires : tie.Need-value-at-requires
 value-at-requires c κs = search needs

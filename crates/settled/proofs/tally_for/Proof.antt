@@ -6,10 +6,6 @@ use Rattle.counts.proofs.Tallies.{counted-as}
 use Rattle.settled.proofs.Tallies.{factored-as}
 use Rattle.settled.proofs.tally_for.Statement.{statement}
 use Rattle.settled.proofs.tally_for.Tie as tie
-use Rattle.settled.proofs.tally_for.Reads as reads
-use Rattle.settled.proofs.tally_for.Lts as lts
-use Rattle.keys.proofs.value_at.Reads as value-at-reads
-use Rattle.settled.proofs.tally_of.Reads as tally-of-reads
 
 value-at-requires : tie.Need-value-at-requires
 value-at-requires c κs = search needs

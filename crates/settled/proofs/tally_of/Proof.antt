@@ -11,11 +11,6 @@ use Rattle.counts.proofs.Topics.{headed-here}
 use Rattle.settled.proofs.Tallies.{Folded, folded-start, folded-end, folded-less, folded-equal, folded-greater}
 use Rattle.settled.proofs.tally_of.Statement.{statement}
 use Rattle.settled.proofs.tally_of.Tie as tie
-use Rattle.settled.proofs.tally_of.Reads as reads
-use Rattle.settled.proofs.tally_of.Lts as lts
-use Rattle.counts.proofs.beside.Reads as beside-reads
-use Rattle.entries.proofs.Cursor.next.Reads as next-reads
-use Rattle.settled.proofs.replica_count.Reads as replica-count-reads
 
 abbrev Inv-loop : tie.InvT-loop
 Inv-loop s name given count₀ factor₀ c₀ count factor c = Passed s name (c .at) count × Folded s name given (c .at) factor

@@ -1,5 +1,5 @@
 -- `shapes::all_rows` meets its contract: the constant is the table, by computation.
-use mathlib.Core.Path.{_≡_, refl}
+use mathlib.Core.Path.{refl}
 use Rattle.model.specs.Shape.{rowsOf}
 use Rattle.shapes.specs.Table.{table, shapes, packShape, packRows, lastRequired, formCode, formSize, howOften, baseOf}
 use Rattle.shapes.proofs.all_rows.Statement.{statement}

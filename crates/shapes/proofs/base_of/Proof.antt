@@ -1,5 +1,4 @@
 -- `shapes::base_of` meets its contract: each kind's base computes, and the refused range is past the last kind.
-use mathlib.Core.Path.{_≡_, refl}
 use Rattle.model.specs.Kind.{kindOf, kinds}
 use Rattle.model.specs.Shape.{shapeOf}
 use Rattle.laws.specs.Refused.{no-kind}

@@ -1,5 +1,4 @@
 -- `shapes::row_at` meets its contract: the lent rows are the table, which has 149.
-use native.Mathlib.Omega.{arith}
 use borrow.Author.Needs.{needs}
 use mathlib.Core.Path.{_≡_, refl, ap}
 use lib.ListN.{length, getD}

@@ -1,6 +1,6 @@
 -- `shapes::stored_base_of` meets its contract: only the topic's stored shape differs from its record's.
 use borrow.Author.Needs.{needs}
-use mathlib.Core.Path.{_≡_, refl, sym, _∙_}
+use mathlib.Core.Path.{sym, _∙_}
 use Rattle.model.specs.Kind.{kindOf, kinds, kindNumber}
 use Rattle.model.specs.Shape.{shapeOf}
 use Rattle.shapes.specs.Table.{kindBase, baseOf}

@@ -5,8 +5,6 @@ use borrow.Author.Needs.{needs}
 use lib.ListN.{length}
 use Rattle.source.proofs.slide.Statement.{statement}
 use Rattle.source.proofs.slide.Tie as tie
-use Rattle.source.proofs.slide.Reads as reads
-use Rattle.source.proofs.slide.Lts as lts
 
 abbrev Inv-loop : tie.InvT-loop
 Inv-loop window₀ at end i₀ window i = (length window ≡ length window₀) × (at ≤ i) × (i ≤ end)

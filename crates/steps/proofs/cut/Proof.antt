@@ -7,10 +7,6 @@ use Rattle.snapshot.proofs.Shots.{written-fits}
 use Rattle.steps.proofs.Moves.{cut-taken, cut-refused}
 use Rattle.steps.proofs.cut.Statement.{statement}
 use Rattle.steps.proofs.cut.Tie as tie
-use Rattle.steps.proofs.cut.Reads as reads
-use Rattle.steps.proofs.cut.Lts as lts
-use Rattle.restore.proofs.restore.Reads as restore-reads
-use Rattle.snapshot.proofs.snapshot.Reads as snapshot-reads
 
 snapshot-requires : tie.Need-snapshot-requires
 snapshot-requires c κs = search needs

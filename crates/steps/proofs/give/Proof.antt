@@ -4,10 +4,6 @@ use borrow.Author.Needs.{needs}
 use Rattle.steps.proofs.Moves.{refused-verdict, refused-image, applied-verdict, applied-image}
 use Rattle.steps.proofs.give.Statement.{statement}
 use Rattle.steps.proofs.give.Tie as tie
-use Rattle.steps.proofs.give.Reads as reads
-use Rattle.steps.proofs.give.Lts as lts
-use Rattle.apply.proofs.apply.Reads as apply-reads
-use Rattle.validate.proofs.validate.Reads as validate-reads
 
 validate-requires : tie.Need-validate-requires
 validate-requires c κs = search needs

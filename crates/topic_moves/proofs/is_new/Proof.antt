@@ -1,5 +1,4 @@
 -- `topic_moves::is_new` meets its contract: it is sought.
-use borrow.Author.Needs.{needs}
 use native.Mathlib.Omega.{arith}
 use Rattle.keys.proofs.Keys.{known-bytes}
 use Rattle.entries.proofs.Changes.{is-keyed}

@@ -1,15 +1,9 @@
 -- `words::say_name` ends, and stays in its buffers.
 use Prim.Native.Nat.{_-_, _≤_}
-use mathlib.Core.Path.{_≡_, sym}
-use native.Mathlib.Omega.{arith}
 use lib.ListN.{length}
-use lib.Seq.{length-take-le}
 use borrow.Author.Needs.{needs}
 use Rattle.words.proofs.say_name.Statement.{statement}
 use Rattle.words.proofs.say_name.Tie as tie
-use Rattle.words.proofs.say_name.Reads as reads
-use Rattle.words.proofs.say_name.Lts as lts
-use Rattle.words.proofs.say.Reads as say-reads
 
 abbrev Inv-loop : tie.InvT-loop
 Inv-loop name i₀ t4 i = i ≤ length name

@@ -1,5 +1,5 @@
 -- `Cursor::next` meets its contract: what it tells is the fields from the cursor on.
-use mathlib.Core.Path.{_≡_, refl, sym, ap, _∙_}
+use mathlib.Core.Path.{_≡_, refl, sym}
 use native.Mathlib.Omega.{arith}
 use borrow.Author.Needs.{needs}
 use Rattle.fields.specs.Fields.{told, Onward}

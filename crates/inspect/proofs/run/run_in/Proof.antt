@@ -1,21 +1,11 @@
 -- `inspect::run::run_in` ends, and stays in its buffers.
 use Prim.Native.Nat.{_-_, _≤_}
-use mathlib.Core.Path.{_≡_, sym}
+use mathlib.Core.Path.{_≡_}
 use native.Mathlib.Omega.{arith}
 use lib.ListN.{length}
-use lib.Seq.{length-take-le}
 use borrow.Author.Needs.{needs}
 use Rattle.inspect.proofs.run.run_in.Statement.{statement}
 use Rattle.inspect.proofs.run.run_in.Tie as tie
-use Rattle.inspect.proofs.run.run_in.Reads as reads
-use Rattle.inspect.proofs.run.run_in.Lts as lts
-use Rattle.inspect.proofs.run.say_torn.Reads as say-torn-reads
-use Rattle.inspect.proofs.run.size_of.Reads as size-of-reads
-use Rattle.inspect.proofs.run.turn.Reads as turn-reads
-use Rattle.source.proofs.passed.Reads as passed-reads
-use Rattle.source.proofs.refill.Reads as refill-reads
-use Rattle.source.proofs.start.Reads as start-reads
-use Rattle.source.proofs.tell_progress.Reads as tell-progress-reads
 
 abbrev Inv-loop : tie.InvT-loop
 Inv-loop fd window₀ plain₀ other₀ out₀ more₀ cuts source₀ course₀ window plain other out more source course = (length window ≡ length window₀) × (length plain ≡ length plain₀) × (length other ≡ length other₀) × (length out ≡ length out₀) × (length more ≡ length more₀) × (source .at ≤ source .end) × (source .end ≤ length window)

@@ -3,7 +3,7 @@ use borrow.Author.Needs.{needs}
 use native.Mathlib.Omega.{arith}
 use Prim.Native.Nat.{_+_, _≤_}
 use lib.ListN.{length}
-use Rattle.keys.proofs.Found.{within-part}
+use Rattle.fields.proofs.Took.{within-part}
 use Rattle.judge.proofs.Fields.{lent-nested, none-nested, nested-short}
 use Rattle.judge.proofs.Queries.{unknown-lent}
 use Rattle.judge.proofs.topics.unknown_nested.Statement.{statement}

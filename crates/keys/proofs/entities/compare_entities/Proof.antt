@@ -1,7 +1,7 @@
 -- `entities::compare_entities` meets its contract. The invariant: the order of the elements still to come is the order of all.
-use Prim.Native.Nat.{_≤_, _-_}
+use Prim.Native.Nat.{_-_}
 use borrow.Author.Needs.{needs}
-use mathlib.Core.Path.{_≡_, refl, sym, ap, ap₂, _∙_}
+use mathlib.Core.Path.{_≡_, ap₂, _∙_}
 use native.Mathlib.Omega.{arith}
 use Rattle.model.specs.Run.{values}
 use Rattle.laws_records.specs.Fields.{Ascending}

@@ -1,6 +1,6 @@
 -- `entities::compare_entity` meets its contract: names decide where types are the same.
 use borrow.Author.Needs.{needs}
-use mathlib.Core.Path.{_≡_, refl, sym, ap, ap₂, _∙_}
+use mathlib.Core.Path.{_∙_}
 use Rattle.keys.proofs.Orders.{first-less, first-equal, first-greater}
 use Rattle.keys.proofs.entities.compare_entity.Statement.{statement}
 use Rattle.keys.proofs.entities.compare_entity.Tie as tie

@@ -1,10 +1,11 @@
 -- `entities::compare_names` meets its contract, by which of the two names are there.
 use Prim.Native.Nat.{_+_}
 use borrow.Author.Needs.{needs}
-use mathlib.Core.Path.{_≡_, refl, sym, ap, ap₂, _∙_}
+use mathlib.Core.Path.{ap₂, _∙_}
 use native.Mathlib.Omega.{arith}
 use Rattle.model.specs.Order.{compareBytes}
-use Rattle.keys.proofs.Found.{lent-slice, field-part, field-missing, within-part}
+use Rattle.fields.proofs.Took.{within-part}
+use Rattle.keys.proofs.Found.{lent-slice, field-part, field-missing}
 use Rattle.keys.proofs.Elements.{names-both, name-second, name-first, names-none}
 use Rattle.keys.proofs.entities.compare_names.Statement.{statement}
 use Rattle.keys.proofs.entities.compare_names.Tie as tie

@@ -1,7 +1,6 @@
 -- `entities::compare_types` meets its contract: the two parts are the two types.
 use borrow.Author.Needs.{needs}
-use mathlib.Core.Path.{_≡_, refl, sym, ap, ap₂, _∙_}
-use native.Mathlib.Omega.{arith}
+use mathlib.Core.Path.{ap₂, _∙_}
 use Rattle.model.specs.Order.{compareBytes}
 use Rattle.keys.proofs.Found.{lent-slice}
 use Rattle.keys.proofs.entities.compare_types.Statement.{statement}

@@ -1,6 +1,5 @@
 -- `entities::next_entity` meets its contract, by what stands at the cursor.
 use borrow.Author.Needs.{needs}
-use mathlib.Core.Path.{_≡_, refl, sym, ap, ap₂, _∙_}
 use native.Mathlib.Omega.{arith}
 use Rattle.fields.proofs.Took.{moved}
 use Rattle.keys.proofs.Elements.{at-element, at-other, at-torn, at-end}

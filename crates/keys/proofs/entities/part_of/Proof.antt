@@ -1,8 +1,8 @@
 -- `entities::part_of` meets its contract: the type that `field` found, and nothing where it found none.
 use borrow.Author.Needs.{needs}
-use mathlib.Core.Path.{_≡_, refl, sym, ap, ap₂, _∙_}
 use native.Mathlib.Omega.{arith}
-use Rattle.keys.proofs.Found.{value-part, value-missing, within-part}
+use Rattle.fields.proofs.Took.{within-part}
+use Rattle.keys.proofs.Found.{value-part, value-missing}
 use Rattle.keys.proofs.entities.part_of.Statement.{statement}
 use Rattle.keys.proofs.entities.part_of.Tie as tie
 

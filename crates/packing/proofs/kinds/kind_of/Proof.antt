@@ -1,5 +1,5 @@
 -- `packing::kinds::kind_of` meets its contract: each number's kind computes, and the refused range is past the last kind.
-use mathlib.Core.Path.{_≡_, sym}
+use mathlib.Core.Path.{sym}
 use Rattle.model.specs.Kind.{kindOf, kinds}
 use Rattle.shapes.proofs.Bases.{kind-past}
 use Rattle.laws.specs.Refused.{no-kind}

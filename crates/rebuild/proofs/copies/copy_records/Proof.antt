@@ -5,10 +5,6 @@ use lib.ListN.{length}
 use borrow.Author.Needs.{needs}
 use Rattle.rebuild.proofs.copies.copy_records.Statement.{statement}
 use Rattle.rebuild.proofs.copies.copy_records.Tie as tie
-use Rattle.rebuild.proofs.copies.copy_records.Reads as reads
-use Rattle.rebuild.proofs.copies.copy_records.Lts as lts
-use Rattle.rebuild.proofs.copies.copy_record.Reads as copy-record-reads
-use Rattle.rebuild.proofs.copies.size_at.Reads as size-at-reads
 
 abbrev Inv-loop : tie.InvT-loop
 Inv-loop image₀ input copied₀ at₀ image copied at = (length image ≡ length image₀) × (copied .end ≤ length image) × (at ≤ length input)

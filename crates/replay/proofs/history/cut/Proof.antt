@@ -4,12 +4,6 @@ use lib.Seq.{length-take-le}
 use borrow.Author.Needs.{needs}
 use Rattle.replay.proofs.history.cut.Statement.{statement}
 use Rattle.replay.proofs.history.cut.Tie as tie
-use Rattle.replay.proofs.history.cut.Reads as reads
-use Rattle.replay.proofs.history.cut.Lts as lts
-use Rattle.answer_lines.proofs.print_written.Reads as print-written-reads
-use Rattle.replay.proofs.history.fill.Reads as fill-reads
-use Rattle.replay.proofs.history.restore.Reads as restore-reads
-use Rattle.snapshot.proofs.snapshot.Reads as snapshot-reads
 
 snapshot-requires : tie.Need-snapshot-requires
 snapshot-requires c κs = search needs

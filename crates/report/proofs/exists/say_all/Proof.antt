@@ -1,18 +1,10 @@
 -- `report::exists::say_all` ends, and stays in its buffers.
-use Prim.Native.Nat.{_-_, _≤_}
-use mathlib.Core.Path.{_≡_, sym}
-use native.Mathlib.Omega.{arith}
-use lib.ListN.{length}
+use Prim.Native.Nat.{_-_}
+use mathlib.Core.Path.{sym}
 use lib.Seq.{length-take-le}
 use borrow.Author.Needs.{needs}
 use Rattle.report.proofs.exists.say_all.Statement.{statement}
 use Rattle.report.proofs.exists.say_all.Tie as tie
-use Rattle.report.proofs.exists.say_all.Reads as reads
-use Rattle.report.proofs.exists.say_all.Lts as lts
-use Rattle.report.proofs.exists.say_counts.Reads as say-counts-reads
-use Rattle.report.proofs.exists.say_entries.Reads as say-entries-reads
-use Rattle.report.proofs.exists.say_weight.Reads as say-weight-reads
-use Rattle.report.proofs.snapshots.take_snapshot.Reads as take-snapshot-reads
 
 take-snapshot-requires : tie.Need-take-snapshot-requires
 take-snapshot-requires c κs = search needs

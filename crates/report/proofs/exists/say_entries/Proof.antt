@@ -1,16 +1,9 @@
 -- `report::exists::say_entries` ends, and stays in its buffers.
 use Prim.Native.Nat.{_-_, _≤_}
-use mathlib.Core.Path.{_≡_, sym}
-use native.Mathlib.Omega.{arith}
 use lib.ListN.{length}
-use lib.Seq.{length-take-le}
 use borrow.Author.Needs.{needs}
 use Rattle.report.proofs.exists.say_entries.Statement.{statement}
 use Rattle.report.proofs.exists.say_entries.Tie as tie
-use Rattle.report.proofs.exists.say_entries.Reads as reads
-use Rattle.report.proofs.exists.say_entries.Lts as lts
-use Rattle.report.proofs.exists.with_record.Reads as with-record-reads
-use Rattle.report.proofs.snapshots.end_of.Reads as end-of-reads
 
 abbrev Inv-loop : tie.InvT-loop
 Inv-loop image records seen₀ at₀ seen at = at ≤ length records

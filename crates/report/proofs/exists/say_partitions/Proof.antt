@@ -1,17 +1,9 @@
 -- `report::exists::say_partitions` ends, and stays in its buffers.
 use Prim.Native.Nat.{_-_, _≤_}
-use mathlib.Core.Path.{_≡_, sym}
-use native.Mathlib.Omega.{arith}
 use lib.ListN.{length}
-use lib.Seq.{length-take-le}
 use borrow.Author.Needs.{needs}
 use Rattle.report.proofs.exists.say_partitions.Statement.{statement}
 use Rattle.report.proofs.exists.say_partitions.Tie as tie
-use Rattle.report.proofs.exists.say_partitions.Reads as reads
-use Rattle.report.proofs.exists.say_partitions.Lts as lts
-use Rattle.report.proofs.exists.is_partition_of.Reads as is-partition-of-reads
-use Rattle.report.proofs.snapshots.end_of.Reads as end-of-reads
-use Rattle.words.proofs.say_signed.Reads as say-signed-reads
 
 abbrev Inv-loop : tie.InvT-loop
 Inv-loop records topic at₀ t5 at = at ≤ length records

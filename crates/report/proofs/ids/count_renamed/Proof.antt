@@ -1,18 +1,9 @@
 -- `report::ids::count_renamed` ends, and stays in its buffers.
 use Prim.Native.Nat.{_-_, _≤_}
-use mathlib.Core.Path.{_≡_, sym}
-use native.Mathlib.Omega.{arith}
 use lib.ListN.{length}
-use lib.Seq.{length-take-le}
 use borrow.Author.Needs.{needs}
 use Rattle.report.proofs.ids.count_renamed.Statement.{statement}
 use Rattle.report.proofs.ids.count_renamed.Tie as tie
-use Rattle.report.proofs.ids.count_renamed.Reads as reads
-use Rattle.report.proofs.ids.count_renamed.Lts as lts
-use Rattle.report.proofs.ids.is_renamed.Reads as is-renamed-reads
-use Rattle.report.proofs.snapshots.end_of.Reads as end-of-reads
-use Rattle.words.proofs.say.Reads as say-reads
-use Rattle.words.proofs.say_field.Reads as say-field-reads
 
 abbrev Inv-loop : tie.InvT-loop
 Inv-loop plain other records count₀ at₀ t7 t8 count at = (at ≤ length records) × (count ≤ at)

@@ -1,16 +1,10 @@
 -- `report::ids::renamed` ends, and stays in its buffers.
-use Prim.Native.Nat.{_-_, _≤_}
-use mathlib.Core.Path.{_≡_, sym}
-use native.Mathlib.Omega.{arith}
-use lib.ListN.{length}
+use Prim.Native.Nat.{_-_}
+use mathlib.Core.Path.{sym}
 use lib.Seq.{length-take-le}
 use borrow.Author.Needs.{needs}
 use Rattle.report.proofs.ids.renamed.Statement.{statement}
 use Rattle.report.proofs.ids.renamed.Tie as tie
-use Rattle.report.proofs.ids.renamed.Reads as reads
-use Rattle.report.proofs.ids.renamed.Lts as lts
-use Rattle.report.proofs.ids.count_renamed.Reads as count-renamed-reads
-use Rattle.report.proofs.snapshots.take_snapshot.Reads as take-snapshot-reads
 
 take-snapshot-requires : tie.Need-take-snapshot-requires
 take-snapshot-requires c κs = search needs

@@ -1,17 +1,10 @@
 -- `report::ids::same_name` ends, and stays in its buffers.
-use Prim.Native.Nat.{_-_, _≤_}
-use mathlib.Core.Path.{_≡_, sym}
-use native.Mathlib.Omega.{arith}
-use lib.ListN.{length}
+use Prim.Native.Nat.{_-_}
+use mathlib.Core.Path.{sym}
 use lib.Seq.{length-take-le}
 use borrow.Author.Needs.{needs}
 use Rattle.report.proofs.ids.same_name.Statement.{statement}
 use Rattle.report.proofs.ids.same_name.Tie as tie
-use Rattle.report.proofs.ids.same_name.Reads as reads
-use Rattle.report.proofs.ids.same_name.Lts as lts
-use Rattle.report.proofs.ids.named_by.Reads as named-by-reads
-use Rattle.io.proofs.buffer.Reads as buffer-reads
-use Rattle.wire.proofs.same.Reads as same-reads
 
 buffer-requires : tie.Need-buffer-requires
 buffer-requires c κs = search needs

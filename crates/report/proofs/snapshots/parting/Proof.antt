@@ -1,16 +1,9 @@
 -- `report::snapshots::parting` ends, and stays in its buffers.
 use Prim.Native.Nat.{_-_, _≤_}
-use mathlib.Core.Path.{_≡_, sym}
-use native.Mathlib.Omega.{arith}
 use lib.ListN.{length}
-use lib.Seq.{length-take-le}
 use borrow.Author.Needs.{needs}
 use Rattle.report.proofs.snapshots.parting.Statement.{statement}
 use Rattle.report.proofs.snapshots.parting.Tie as tie
-use Rattle.report.proofs.snapshots.parting.Reads as reads
-use Rattle.report.proofs.snapshots.parting.Lts as lts
-use Rattle.report.proofs.snapshots.end_of.Reads as end-of-reads
-use Rattle.wire.proofs.same.Reads as same-reads
 
 abbrev Inv-loop : tie.InvT-loop
 Inv-loop records other at₀ at = at ≤ length records

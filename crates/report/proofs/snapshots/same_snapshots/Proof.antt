@@ -1,16 +1,10 @@
 -- `report::snapshots::same_snapshots` meets its contract: both snapshots are compared as they were written.
-use Prim.Native.Nat.{_-_, _≤_}
-use mathlib.Core.Path.{_≡_, sym}
-use native.Mathlib.Omega.{arith}
-use lib.ListN.{length}
+use Prim.Native.Nat.{_-_}
+use mathlib.Core.Path.{sym}
 use lib.Seq.{length-take-le}
 use borrow.Author.Needs.{needs}
 use Rattle.report.proofs.snapshots.same_snapshots.Statement.{statement}
 use Rattle.report.proofs.snapshots.same_snapshots.Tie as tie
-use Rattle.report.proofs.snapshots.same_snapshots.Reads as reads
-use Rattle.report.proofs.snapshots.same_snapshots.Lts as lts
-use Rattle.report.proofs.snapshots.same_records.Reads as same-records-reads
-use Rattle.report.proofs.snapshots.take_snapshot.Reads as take-snapshot-reads
 
 take-snapshot-requires : tie.Need-take-snapshot-requires
 take-snapshot-requires c κs = search needs

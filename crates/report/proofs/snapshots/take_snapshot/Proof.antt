@@ -5,9 +5,6 @@ use Rattle.records.specs.Answers.{replied}
 use Rattle.report.proofs.Taken.{taken, not-taken}
 use Rattle.report.proofs.snapshots.take_snapshot.Statement.{statement}
 use Rattle.report.proofs.snapshots.take_snapshot.Tie as tie
-use Rattle.report.proofs.snapshots.take_snapshot.Reads as reads
-use Rattle.report.proofs.snapshots.take_snapshot.Lts as lts
-use Rattle.snapshot.proofs.snapshot.Reads as snapshot-reads
 
 snapshot-requires : tie.Need-snapshot-requires
 snapshot-requires c κs = search needs

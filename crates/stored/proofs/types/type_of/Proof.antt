@@ -1,7 +1,8 @@
 -- `types::type_of` meets its contract: the type that `field` found, and nothing where it found none.
 use native.Mathlib.Omega.{arith}
 use borrow.Author.Needs.{needs}
-use Rattle.keys.proofs.Found.{value-part, value-missing, within-part}
+use Rattle.keys.proofs.Found.{value-part, value-missing}
+use Rattle.fields.proofs.Took.{within-part}
 use Rattle.stored.proofs.types.type_of.Statement.{statement}
 use Rattle.stored.proofs.types.type_of.Tie as tie
 

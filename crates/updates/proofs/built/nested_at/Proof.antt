@@ -1,7 +1,7 @@
 -- `built::nested_at` meets its contract: the field that `field` found in the partition's run is the value.
 use borrow.Author.Needs.{needs}
 use native.Mathlib.Omega.{arith}
-use Rattle.keys.proofs.Found.{within-part}
+use Rattle.fields.proofs.Took.{within-part}
 use Rattle.updates.proofs.Drafting.{nested-part, nested-none}
 use Rattle.updates.proofs.built.nested_at.Statement.{statement}
 use Rattle.updates.proofs.built.nested_at.Tie as tie
