@@ -59,6 +59,11 @@ module _ (s : Bytes) (i : IsAssignment s) where
   number-width =
       ap (λ r. length (value 2 r)) (run-in s (i .is)) ∙ fault-value stored PartitionDirAssignment (recordIn s .run) assignment-passes 2 refl refl
 
+  pub node-width : length (value 3 (runIn s)) ≡ 8
+  unfolding rowsOf shapeOf kindNumber
+  node-width =
+      ap (λ r. length (value 3 r)) (run-in s (i .is)) ∙ fault-value stored PartitionDirAssignment (recordIn s .run) assignment-passes 3 refl refl
+
   id-width : length (value 4 (recordIn s .run)) ≡ 16
   unfolding rowsOf shapeOf kindNumber
   id-width = fault-value stored PartitionDirAssignment (recordIn s .run) assignment-passes 4 refl refl
@@ -66,24 +71,23 @@ module _ (s : Bytes) (i : IsAssignment s) where
 -- 2. The slot and the directories
 
 module _ (e s : Bytes) (p : IsPartition e) (a : IsAssignment s) where
-  -- replicas and node as they are lent
-  module _ (from to start end : ℕ) (hp : PartOf e 4 from to) (ha : PartOf s 3 start end) where
+  -- the replicas as they are lent, and the node
+  module _ (from to : ℕ) (hp : PartOf e 4 from to) where
     pub lent-whole : length (take (to - from) (drop from e)) % 8 ≡ 0
     lent-whole = rw (part-value e (p .is) 4 from to hp) (replicas-fit e p .0)
 
-    pub slot-found : {n : ℕ}
-        → SlotIs (slotOf (nodeCount (take (to - from) (drop from e))) (take (end - start) (drop start s)) (take (to - from) (drop from e)))
-        (nodeCount (take (to - from) (drop from e))) n
+    pub slot-found : {node : Bytes} → node ≡ value 3 (runIn s) → {n : ℕ}
+        → SlotIs (slotOf (nodeCount (take (to - from) (drop from e))) node (take (to - from) (drop from e))) (nodeCount (take (to - from) (drop from e))) n
         → ((to - from) / 8 ≡ nodeCount (replicas (recordIn e .run))) × SlotIs (slotIn (recordIn s .run) (recordIn e .run)) ((to - from) / 8) n
-    slot-found {n} h =
+    slot-found {node} is {n} h =
         let f = recordIn s .run in
         let r = recordIn e .run in
         let ends = part-length e from to (replicas r) (hp .1) (hp .2) (hp .0 ∙ ap (value 4) (run-in e (p .is))) in
         let count : (to - from) / 8 ≡ nodeCount (replicas r) = omega arith in
+        let named : node ≡ value 3 f = is ∙ ap (value 3) (run-in s (a .is)) in
         let same : SlotIs (slotOf (nodeCount (replicas r)) (value 3 f) (replicas r)) (nodeCount (replicas r)) n =
-        subst (λ x. SlotIs (slotOf (nodeCount x) (value 3 f) x) (nodeCount x) n) (part-value e (p .is) 4 from to hp)
-        (subst (λ x. SlotIs (slotOf (nodeCount (take (to - from) (drop from e))) x (take (to - from) (drop from e))) (nodeCount (take (to - from) (drop from e))) n)
-        (part-value s (a .is) 3 start end ha) h) in
+        subst (λ v. SlotIs (slotOf (nodeCount (replicas r)) v (replicas r)) (nodeCount (replicas r)) n) named
+        (subst (λ x. SlotIs (slotOf (nodeCount x) node x) (nodeCount x) n) (part-value e (p .is) 4 from to hp) h) in
         (count, subst (λ x. SlotIs (slotIn f r) x n) (sym count) same)
 
   module _ {count slot : ℕ} (h : (count ≡ nodeCount (replicas (recordIn e .run))) × SlotIs (slotIn (recordIn s .run) (recordIn e .run)) count slot) where

@@ -1,17 +1,20 @@
 -- A node among nodes of eight bytes each: the walk over them to its first slot.
-use mathlib.Core.Path.{_≡_, refl, sym, ap, _∙_}
+use mathlib.Core.Path.{_≡_, refl, sym, ap, ap₂, _∙_}
 use mathlib.Core.Bool.{Bool, true, false, cond}
 use mathlib.Core.List.{[], _∷_}
 use mathlib.Core.Option.{Option, none, some}
 use Prim.Native.Nat.{ℕ, suc, _+_, _-_, _*_, _%_, _≤_, _<_}
 use native.Mathlib.Omega.{arith}
+use lib.Dec.{eqb}
 use lib.ListN.{length, take, drop, length-drop}
-use lib.Seq.{drop-drop}
+use lib.Seq.{slice, length-slice, drop-drop}
 use Rattle.model.specs.Choice.{given}
-use Rattle.model.specs.Number.{Bytes}
+use Rattle.model.specs.Number.{Bytes, AreBytes, number, bytes, span}
 use Rattle.model.specs.Order.{sameBytes}
 use Rattle.model.specs.Move.{nodeCount, slotOf}
 use Rattle.laws.specs.Choice.{over, over-same}
+use Rattle.laws.specs.Numbers.{slice-are-bytes, bytes-are-bytes, number-bytes, sameBytes-number}
+use Rattle.keys.proofs.Found.{lent-slice}
 use Rattle.assignments.specs.Assign.{SlotIs}
 
 -- 1. One slot
@@ -30,6 +33,20 @@ slot-step most node (x ∷ l) h {b} e = rw (← e) (ap (cond b (some 0)) (go (sl
 no-slot : (node nodes : Bytes) → slotOf 0 node nodes ≡ none
 unfolding slotOf
 no-slot node nodes = refl
+
+-- the node at a slot is the one of a number
+pub node-same : (nodes : Bytes) → AreBytes nodes → (i : ℕ) → i * 8 + 8 ≤ length nodes → (n : ℕ) → n < span 8 → {m : ℕ}
+    → m ≡ number (slice (i * 8) (i * 8 + 8) nodes) → eqb m n ≡ sameBytes (take (i * 8 + 8 - i * 8) (drop (i * 8) nodes)) (bytes 8 n)
+node-same nodes are i fits n low {m} e =
+    let at = i * 8 in
+    let here = slice at (at + 8) nodes in
+    let eight : at + 8 - at ≡ 8 = omega arith in
+    let long : length here ≡ length (bytes 8 n) = length-slice at (at + 8) nodes fits ∙ eight in
+    sym (
+    ap (λ v. sameBytes v (bytes 8 n)) (lent-slice nodes at (at + 8) (omega arith))
+    ∙ sameBytes-number here (bytes 8 n) long (slice-are-bytes at (at + 8) nodes are) (bytes-are-bytes 8 n)
+    ∙ ap₂ eqb (sym e) (number-bytes 8 n low)
+    )
 
 -- 2. The walk
 

@@ -1,8 +1,11 @@
 // A partition's directories, with the one of a replica assigned.
+use keys::node_at;
 use keys::value_at;
+use model::NodeId;
 ghost use mathlib.Core.Path.{_≡_};
 ghost use Prim.Native.Nat.{_+_, _*_, _-_, _%_, _≤_, _<_};
 ghost use lib.ListN.{length, take};
+ghost use Rattle.model.specs.Number.{bytes};
 ghost use Rattle.model.specs.Move.{replicas, nodeCount, slotOf, filled, assigned};
 ghost use Rattle.entries.specs.Entries.{recordIn};
 ghost use Rattle.assignments.specs.Assign.{IsAssignment, IsPartition, slotIn, SlotIs, newDirectories, Built};
@@ -14,16 +17,14 @@ pub struct Slot {
 }
 
 // The first slot of a node among nodes of eight bytes each, their number where it is not among them.
-fn slot_of(nodes: &[u8], node: &[u8]) -> usize
+fn slot_of(nodes: &[u8], node: NodeId) -> usize
     requires { ⌜ length (now nodes) % 8 ≡ 0 ⌝ }
-    ensures { λ r. ⌜ SlotIs (slotOf (nodeCount (now (nodes .entry))) (now (node .entry)) (now (nodes .entry))) (nodeCount (now (nodes .entry))) r ⌝ }
+    ensures { λ r. ⌜ SlotIs (slotOf (nodeCount (now (nodes .entry))) (bytes 8 (node .0)) (now (nodes .entry))) (nodeCount (now (nodes .entry))) r ⌝ }
 {
     let count = nodes.len() / 8;
     let mut i = 0;
     while i < count {
-        let at = i * 8;
-        let end = at + 8;
-        if wire::same(&nodes[at..end], node) {
+        if wire::get(nodes, i * 8, 8) == node.0 {
             return i;
         }
         i += 1;
@@ -37,14 +38,11 @@ fn slot_in(e: &[u8], rec: &[u8]) -> Slot
     ensures { λ r. ⌜ (r .count ≡ nodeCount (replicas (recordIn (now (e .entry)) .run))) × SlotIs (slotIn (recordIn (now (rec .entry)) .run) (recordIn (now (e .entry)) .run)) (r .count) (r .at) ⌝ }
 {
     let p = value_at(e, 4);
-    let q = value_at(rec, 3);
-    let ps = p.start;
-    let pe = p.end;
-    let qs = q.start;
-    let qe = q.end;
+    let start = p.start;
+    let end = p.end;
     Slot {
-        count: (pe - ps) / 8,
-        at: slot_of(&e[ps..pe], &rec[qs..qe]),
+        count: (end - start) / 8,
+        at: slot_of(&e[start..end], node_at(rec, 3)),
     }
 }
 

@@ -1,4 +1,3 @@
 pub mod Light
-pub mod Advance
 pub mod Loaded
 pub mod Stepping

@@ -10,9 +10,9 @@ use Rattle.laws_image.specs.Tests.{capacity-least, capacity-most}
 use Rattle.laws_image.specs.Exact.{image-fits}
 use Rattle.laws_apply.specs.MovedFits.{fits-holds}
 use Rattle.reals.proofs.Ends.{used-high}
-use Rattle.work.specs.Work.{groupsIn, Good, heldIn}
+use Rattle.work.specs.Work.{groupsIn, Good, heldIn, stateIn}
 use Rattle.work.specs.declared.Room.{Room}
-use Rattle.attempt.specs.Step.{stateIn, Holding}
+use Rattle.attempt.specs.Step.{Holding}
 
 module _ (image : Bytes) (are : AreBytes image) (is : isImage image ≡ true) (w : Bytes) (room : Room) (epoch kraft : ℕ)
     (load : Good w room × (heldIn w room ≡ contentsOf image .real) × (groupsIn w room ≡ contentsOf image .empties) × (room .used + headSize ≡ usedIn image))

@@ -1,5 +1,5 @@
 -- A record's step on a work array: what its moves ask for, what they make, and its outcome.
-use mathlib.Core.Path.{_≡_, refl, sym, ap, ap₂, _∙_, subst}
+use mathlib.Core.Path.{_≡_, refl, sym, ap, _∙_, subst}
 use mathlib.Core.Bool.{Bool, true, false, not}
 use Prim.Native.Nat.{ℕ, _+_, _*_, _≤_}
 use native.Mathlib.Omega.{arith}
@@ -10,7 +10,7 @@ use Rattle.model.specs.Number.{Bytes, AreBytes}
 use Rattle.model.specs.Shape.{logged, fault}
 use Rattle.model.specs.Contents.{Entry, topic, part, plain, key, Fixed, Contents, partitions, weight}
 use Rattle.model.specs.Image.{mostCapacity}
-use Rattle.model.specs.Move.{countOf, plan, moved, overflows}
+use Rattle.model.specs.Move.{countOf, moved}
 use Rattle.model.specs.Apply.{stays, becomes, apply}
 use Rattle.laws.specs.Lists.{All, In, all-in}
 use Rattle.laws.specs.Map.{Asc, in-get}
@@ -20,16 +20,14 @@ use Rattle.laws_image.specs.Tests.{capacity-most}
 use Rattle.laws_restore.specs.Weight.{partitions-total}
 use Rattle.laws_apply.specs.Moves.{Holds}
 use Rattle.laws_apply.specs.MovedFits.{moved-holds}
-use Rattle.header.specs.Header.{fixedOf}
 use Rattle.judge.specs.Judge.{IsLogged, loggedIn}
 use Rattle.judge.proofs.Logged.{run-in, passes}
 use Rattle.patches.specs.Patches.{CountFits}
-use Rattle.fixed_parts.specs.Fixed.{epochAfter, kraftAfter}
-use Rattle.fixed_parts.proofs.Moved.{moved-fixed}
-use Rattle.work.specs.Work.{heldIn, contentsIn, mostRecord, Made}
-use Rattle.work.specs.declared.Room.{Room}
-use Rattle.attempt.specs.Step.{workRoom, stateIn, Holding}
-use Rattle.attempt.specs.declared.State.{State}
+use Rattle.work.specs.Work.{heldIn, contentsIn, fixedParts, stateIn, mostRecord}
+use Rattle.work.specs.declared.State.{State}
+use Rattle.work.specs.declared.Tried.the-variants.{Refused, Moved}
+use Rattle.plans.specs.Plans.{Planned}
+use Rattle.attempt.specs.Step.{workRoom, Holding}
 use Rattle.attempt.proofs.Light.{used-light}
 
 -- 1. Before the moves
@@ -58,8 +56,14 @@ module _ (w : Bytes) (s : State) (capacity : ℕ) (h : Holding w s capacity) whe
 
 -- 2. After them
 
-module _ (w v : Bytes) (s : State) (capacity : ℕ) (h : Holding w s capacity) (rec : Bytes) (i : IsLogged rec) (areRec : AreBytes rec) (m : Room)
-    (made : Made (plan (loggedIn rec .kind) (loggedIn rec .run) (heldIn w (s .room))) w (s .room) v m) where
+-- an advance whose sum leaves i64
+pub overflowing : (w v : Bytes) (s : State) (capacity : ℕ) (rec : Bytes) {n : ℕ} → Planned (loggedIn rec) w s v (Refused n)
+    → stays n ≡ apply capacity (loggedIn rec) (stateIn w s)
+unfolding apply
+overflowing w v s capacity rec h = rw (h .0, h .1) refl
+
+module _ (w v : Bytes) (s t : State) (capacity : ℕ) (h : Holding w s capacity) (rec : Bytes) (i : IsLogged rec) (areRec : AreBytes rec)
+    (made : Planned (loggedIn rec) w s v (Moved t)) where
   record-passes : fault logged (loggedIn rec .kind) (loggedIn rec .run) ≡ 0
   record-passes = subst (λ f. fault logged (loggedIn rec .kind) f ≡ 0) (run-in rec i) (passes rec i)
 
@@ -67,51 +71,40 @@ module _ (w v : Bytes) (s : State) (capacity : ℕ) (h : Holding w s capacity) (
   record-fields = subst AreFields (run-in rec i) (fields-run (drop 3 rec) (drop-are-bytes 3 rec areRec))
 
   -- the contents that the moves make
-  pub contents-made : contentsIn v m (moved (loggedIn rec) (stateIn w s) .fixed) ≡ moved (loggedIn rec) (stateIn w s)
+  state-after : stateIn v t ≡ moved (loggedIn rec) (stateIn w s)
   unfolding moved
-  contents-made = rw (made .real (fixedOf (s .epoch) (s .kraft)), made .empties (fixedOf (s .epoch) (s .kraft))) refl
+  state-after =
+      ap (contentsIn v (t .room)) (made .2)
+      ∙ rw (made .1 .real (fixedParts s), made .1 .empties (fixedParts s)) refl
 
-  pub held-after : Holds (moved (loggedIn rec) (stateIn w s))
+  held-after : Holds (moved (loggedIn rec) (stateIn w s))
   held-after = moved-holds (stateIn w s) (loggedIn rec) record-passes record-fields (h .holds)
 
-  pub ascends-after : Asc key (heldIn v m)
-  ascends-after = subst (λ (x : Contents). Asc key (x .real)) (sym contents-made) (held-after .ascends)
+  pub ascends-after : Asc key (heldIn v (t .room))
+  ascends-after = subst (λ (x : Contents). Asc key (x .real)) (sym state-after) (held-after .ascends)
 
   -- the outcomes
-  module _ {b : Bool} (e : (f : Fixed) → b ≡ leb (weight (contentsIn v m f)) capacity) where
+  module _ {b : Bool} (e : (f : Fixed) → b ≡ leb (weight (contentsIn v (t .room) f)) capacity) where
     weighed : b ≡ leb (weight (moved (loggedIn rec) (stateIn w s))) capacity
-    weighed = e (moved (loggedIn rec) (stateIn w s) .fixed) ∙ ap (λ x. leb (weight x) capacity) contents-made
+    weighed = e (fixedParts t) ∙ ap (λ x. leb (weight x) capacity) state-after
 
-    module _ {o : Bool} (eo : o ≡ overflows (loggedIn rec) (heldIn w (s .room))) (stay : o ≡ false) where
-      pub too-heavy : not b ≡ true → stays 18 ≡ apply capacity (loggedIn rec) (stateIn w s)
+    pub too-heavy : not b ≡ true → stays 18 ≡ apply capacity (loggedIn rec) (stateIn w s)
+    unfolding apply
+    too-heavy q = rw (made .0, sym weighed ∙ not-true b q) refl
+
+    module _ (q : not b ≡ false) where
+      pub becomes-after : becomes (stateIn v t) ≡ apply capacity (loggedIn rec) (stateIn w s)
       unfolding apply
-      too-heavy q = rw (sym eo ∙ stay, sym weighed ∙ not-true b q) refl
+      becomes-after = ap becomes state-after ∙ rw (made .0, sym weighed ∙ not-false b q) refl
 
-      module _ (q : not b ≡ false) {epoch kraft : ℕ} (ee : epoch ≡ epochAfter (loggedIn rec) (s .epoch)) (ek : kraft ≡ kraftAfter (loggedIn rec) (s .kraft)) where
-        state-after : stateIn v (record { room = m; epoch = epoch; kraft = kraft }) ≡ moved (loggedIn rec) (stateIn w s)
-        state-after =
-            ap₂ (λ x y. contentsIn v m (fixedOf x y)) ee ek
-            ∙ ap (contentsIn v m) (sym (moved-fixed (loggedIn rec) (stateIn w s)))
-            ∙ contents-made
+      light-after : weight (stateIn v t) ≤ capacity
+      light-after = rw state-after (leb-true (weight (moved (loggedIn rec) (stateIn w s))) capacity (sym weighed ∙ not-false b q))
 
-        pub becomes-after : becomes (stateIn v (record { room = m; epoch = epoch; kraft = kraft })) ≡ apply capacity (loggedIn rec) (stateIn w s)
-        unfolding apply
-        becomes-after = ap becomes state-after ∙ rw (sym eo ∙ stay, sym weighed ∙ not-false b q) refl
-
-        light-after : weight (stateIn v (record { room = m; epoch = epoch; kraft = kraft })) ≤ capacity
-        light-after = rw state-after (leb-true (weight (moved (loggedIn rec) (stateIn w s))) capacity (sym weighed ∙ not-false b q))
-
-        pub holding-after : AreBytes v → Holding v (record { room = m; epoch = epoch; kraft = kraft }) capacity
-        holding-after are = record {
-          good = made .good;
-          holds = subst Holds (sym state-after) held-after;
-          within = h .within;
-          light = light-after;
-          fits = omega (arith, used-light v m are (made .good) (fixedOf epoch kraft) ascends-after, light-after);
-        }
-
--- an advance whose sum leaves i64
-pub overflowing : (w : Bytes) (s : State) (capacity : ℕ) (rec : Bytes) {o : Bool} → o ≡ overflows (loggedIn rec) (heldIn w (s .room)) → o ≡ true
-    → stays 17 ≡ apply capacity (loggedIn rec) (stateIn w s)
-unfolding apply
-overflowing w s capacity rec eo t = rw (sym eo ∙ t) refl
+      pub holding-after : AreBytes v → Holding v t capacity
+      holding-after are = record {
+        good = made .1 .good;
+        holds = subst Holds (sym state-after) held-after;
+        within = h .within;
+        light = light-after;
+        fits = omega (arith, used-light v (t .room) are (made .1 .good) (fixedParts t) ascends-after, light-after);
+      }

@@ -4,23 +4,19 @@ use mathlib.Core.Bool.{Bool, true}
 use Prim.Native.Nat.{ℕ, _+_, _≤_}
 use lib.Dec.{leb}
 use Rattle.model.specs.Number.{Bytes}
-use Rattle.model.specs.Contents.{Contents, Fixed, weight}
+use Rattle.model.specs.Contents.{Fixed, weight}
 use Rattle.model.specs.Image.{isCapacity, headSize}
 use Rattle.model.specs.Apply.{Applied, stays, becomes}
 use Rattle.laws_apply.specs.Moves.{Holds}
-use Rattle.header.specs.Header.{fixedOf}
-use Rattle.work.specs.Work.{Good, contentsIn}
+use Rattle.work.specs.Work.{Good, contentsIn, stateIn}
 use Rattle.work.specs.declared.Room.{Room}
-use Rattle.attempt.specs.declared.State.{State}
-use Rattle.attempt.specs.declared.Tried.{Tried}
-use Rattle.attempt.specs.declared.Tried.the-variants.{Refused, Moved}
+use Rattle.work.specs.declared.State.{State}
+use Rattle.work.specs.declared.Tried.{Tried}
+use Rattle.work.specs.declared.Tried.the-variants.{Refused, Moved}
 
 -- the length of a work array: the entries of a full image, and three records
 abbrev pub workRoom : ℕ
 workRoom = 167936
-
-abbrev pub stateIn : Bytes → State → Contents
-stateIn w s = contentsIn w (s .room) (fixedOf (s .epoch) (s .kraft))
 
 -- a state such as an image of a capacity holds
 pub record Holding (w : Bytes) (s : State) (capacity : ℕ) : Type 0 where

@@ -1,7 +1,4 @@
 // A record's moves on a work array, or a refusal. The image itself is not changed.
-use advances::overflows;
-use fixed_parts::epoch_after;
-use fixed_parts::kraft_after;
 use header::epoch_in;
 use header::kraft_in;
 use image::FIXED_ROOM;
@@ -9,6 +6,8 @@ use image::PRODUCER_SIZE;
 use image::has_producer_ids;
 use plans::make;
 use work::Room;
+use work::State;
+use work::Tried;
 use work::load;
 ghost use mathlib.Core.Path.{_≡_};
 ghost use mathlib.Core.Bool.{true};
@@ -16,46 +15,15 @@ ghost use Prim.Native.Nat.{_≤_};
 ghost use lib.ListN.{length};
 ghost use Rattle.model.specs.Contents.{key};
 ghost use Rattle.model.specs.Image.{isImage, contentsOf};
-ghost use Rattle.model.specs.Move.{overflows as overflowsIn};
 ghost use Rattle.model.specs.Apply.{apply as applied};
 ghost use Rattle.laws.specs.Map.{Asc};
-ghost use Rattle.entries.specs.Entries.{Entries};
-ghost use Rattle.judge.specs.Judge.{IsLogged, loggedIn, entriesIn};
+ghost use Rattle.judge.specs.Judge.{IsLogged, loggedIn};
 ghost use Rattle.drafts.specs.Drafts.{draftRoom};
-ghost use Rattle.work.specs.Work.{Good, heldIn};
-ghost use Rattle.attempt.specs.Step.{workRoom, stateIn, Holding, IsLight, outcome, StillHolding};
+ghost use Rattle.work.specs.Work.{Good, heldIn, stateIn};
+ghost use Rattle.attempt.specs.Step.{workRoom, Holding, IsLight, outcome, StillHolding};
 
-// The refusals of Apply by itself: an offset's sum leaves i64; there is no room.
-const OVERFLOW: u8 = 17;
-
+// The refusal where there is no room.
 const FULL: u8 = 18;
-
-// The kind of an offset's advance.
-const ADVANCE: u8 = 15;
-
-// What a work array holds: where its entries stand, and the fixed parts.
-pub struct State {
-    pub room: Room,
-    pub epoch: u64,
-    pub kraft: u64,
-}
-
-// A record's refusal, or the state after its moves.
-pub enum Tried {
-    Refused(u8),
-    Moved(State),
-}
-
-// Whether a record is an advance whose sum leaves i64.
-fn leaves(s: &[u8], rec: &[u8]) -> bool
-    requires { ⌜ Entries (now s) × IsLogged (now rec) ⌝ }
-    ensures { λ r. ⌜ r ≡ overflowsIn (loggedIn (now (rec .entry))) (entriesIn (now (s .entry))) ⌝ }
-{
-    if rec[0] != ADVANCE {
-        return false;
-    }
-    overflows(s, rec)
-}
 
 // Whether the contents of a work array, with any fixed parts, weigh no more than a capacity.
 fn is_light(w: &[u8], room: Room, capacity: usize) -> bool
@@ -82,20 +50,15 @@ pub fn step(
     requires { ⌜ Holding (now w) state capacity × IsLogged (now rec) × (length (now w) ≡ workRoom) × (draftRoom ≤ length (now a)) × (draftRoom ≤ length (now b)) ⌝ }
     ensures { λ r. ⌜ (outcome (now (w .exit)) r ≡ applied capacity (loggedIn (now (rec .entry))) (stateIn (now (w .entry)) state)) × StillHolding (now (w .exit)) capacity r ⌝ }
 {
-    let room = state.room;
-    let mid = room.mid;
-    if leaves(&w[..mid], rec) {
-        return Tried::Refused(OVERFLOW);
+    match make(w, a, b, state, rec) {
+        Tried::Refused(number) => Tried::Refused(number),
+        Tried::Moved(next) => {
+            if !is_light(w, next.room, capacity) {
+                return Tried::Refused(FULL);
+            }
+            Tried::Moved(next)
+        }
     }
-    let moved = make(w, a, b, room, rec);
-    if !is_light(w, moved, capacity) {
-        return Tried::Refused(FULL);
-    }
-    Tried::Moved(State {
-        room: moved,
-        epoch: epoch_after(rec, state.epoch),
-        kraft: kraft_after(rec, state.kraft),
-    })
 }
 
 // The same on the contents of an image.

@@ -34,29 +34,29 @@ use Rattle.broker_changes.proofs.Fields.{step-on}
 
 -- 1. The broker that is copied
 
-module _ (s r : Bytes) (i : IsChange r) {at end : ℕ} (p : Placed s (queryKey 3 (value 1 (runIn r)) []) at end) where
+module _ (s r node : Bytes) (i : IsChange r) {at end : ℕ} (p : Placed s (queryKey 3 node []) at end) where
   -- by the record's fields, as they are read
-  by-read : {b : Bytes} {n : ℕ} → Copied (value 2 (runIn r)) (brokerAt (value 1 (runIn r)) (entriesIn s)) b n
-      → Copied (value 2 (recordIn r .run)) (brokerAt (value 1 (recordIn r .run)) (entriesIn s)) b n
-  by-read {b} {n} c = subst (λ f. Copied (value 2 f) (brokerAt (value 1 f) (entriesIn s)) b n) (run-in r (i .is)) c
+  by-read : {b : Bytes} {n : ℕ} → Copied (value 2 (runIn r)) (brokerAt node (entriesIn s)) b n
+      → Copied (value 2 (recordIn r .run)) (brokerAt node (entriesIn s)) b n
+  by-read {b} {n} c = subst (λ f. Copied (value 2 f) (brokerAt node (entriesIn s)) b n) (run-in r (i .is)) c
 
-  nothing : (b : Bytes) → false ≡ atEpoch (value 2 (runIn r)) (brokerAt (value 1 (runIn r)) (entriesIn s))
-      → Copied (value 2 (recordIn r .run)) (brokerAt (value 1 (recordIn r .run)) (entriesIn s)) b 0
+  nothing : (b : Bytes) → false ≡ atEpoch (value 2 (runIn r)) (brokerAt node (entriesIn s))
+      → Copied (value 2 (recordIn r .run)) (brokerAt node (entriesIn s)) b 0
   nothing b e = by-read (record { none = λ z. sym e; there = λ z. absurd (omega arith) })
 
-  pub not-stored : (b : Bytes) → end ≤ at → Copied (value 2 (recordIn r .run)) (brokerAt (value 1 (recordIn r .run)) (entriesIn s)) b 0
-  not-stored b empty = nothing b (no-broker s r p empty)
+  pub not-stored : (b : Bytes) → end ≤ at → Copied (value 2 (recordIn r .run)) (brokerAt node (entriesIn s)) b 0
+  not-stored b empty = nothing b (no-broker s r node p empty)
 
   module _ (areBytes : AreBytes s) (whole : Entries s) (longer : at < end)
       {t : Bool} (e : t ≡ sameBytes (value 2 (runIn (take (end - at) (drop at s)))) (value 2 (runIn r))) where
-    pub other-epoch : (b : Bytes) → t ≡ false → Copied (value 2 (recordIn r .run)) (brokerAt (value 1 (recordIn r .run)) (entriesIn s)) b 0
-    other-epoch b f = nothing b (sym f ∙ broker-epoch s r p areBytes whole longer e)
+    pub other-epoch : (b : Bytes) → t ≡ false → Copied (value 2 (recordIn r .run)) (brokerAt node (entriesIn s)) b 0
+    other-epoch b f = nothing b (sym f ∙ broker-epoch s r node p areBytes whole longer e)
 
     -- the entry that is copied, as a broker's record
     entry-is : (take (end - at) (drop at s) ≡ recordBytes (rec BrokerRegistration (runIn (take (end - at) (drop at s))))) ×
         (fault stored BrokerRegistration (runIn (take (end - at) (drop at s))) ≡ 0)
     entry-is =
-        let h = broker-held s r p areBytes whole longer in
+        let h = broker-held s r node p areBytes whole longer in
         let x = take (end - at) (drop at s) in
         let kinds : recordIn x .kind ≡ BrokerRegistration = kind-is x (h .is) BrokerRegistration (h .kind) in
         let runs : recordIn x .run ≡ runIn x = sym (run-in x (h .is)) in
@@ -65,18 +65,18 @@ module _ (s r : Bytes) (i : IsChange r) {at end : ℕ} (p : Placed s (queryKey 3
         (h .is .bytes ∙ ap recordBytes value-is, subst (λ q. fault stored (q .kind) (q .run) ≡ 0) value-is (h .is .passes))
 
     pub entry-fits : (b : Bytes) → draftRoom ≤ length b → length (take (end - at) (drop at s)) ≤ length b
-    entry-fits b room = omega (arith, record-size _ (broker-held s r p areBytes whole longer .is))
+    entry-fits b room = omega (arith, record-size _ (broker-held s r node p areBytes whole longer .is))
 
     pub copied : t ≡ true → (b w : Bytes) {n : ℕ} → draftRoom ≤ length b → length w ≡ length b
         → (n ≡ length (take (end - at) (drop at s))) × (take n w ≡ take (end - at) (drop at s))
-        → Copied (value 2 (recordIn r .run)) (brokerAt (value 1 (recordIn r .run)) (entriesIn s)) w n
+        → Copied (value 2 (recordIn r .run)) (brokerAt node (entriesIn s)) w n
     unfolding kindNumber
     copied f b w {n} room same said =
         let x = take (end - at) (drop at s) in
-        let found : some (runIn x) ≡ brokerAt (value 1 (runIn r)) (entriesIn s) =
-        sym (held-run (broker-held s r p areBytes whole longer) refl) ∙ same-broker s r p in
+        let found : some (runIn x) ≡ brokerAt node (entriesIn s) =
+        sym (held-run (broker-held s r node p areBytes whole longer) refl) ∙ same-broker s r node p in
         let here : Copied (value 2 (runIn r)) (some (runIn x)) w n = record {
-          none = λ z. absurd (omega (arith, said .0, headed x (broker-held s r p areBytes whole longer .is)));
+          none = λ z. absurd (omega (arith, said .0, headed x (broker-held s r node p areBytes whole longer .is)));
           there = λ z. (
             sym e ∙ f,
             record {
@@ -90,6 +90,12 @@ module _ (s r : Bytes) (i : IsChange r) {at end : ℕ} (p : Placed s (queryKey 3
         by-read (subst (λ o. Copied (value 2 (runIn r)) o w n) found here)
 
 -- 2. The moves
+
+-- the broker of the node that a change names
+pub of-node : (r node : Bytes) → IsChange r → node ≡ value 1 (runIn r) → (l : List Entry) {b : Bytes} {n : ℕ}
+    → Copied (value 2 (recordIn r .run)) (brokerAt node l) b n → Copied (value 2 (recordIn r .run)) (brokerAt (value 1 (recordIn r .run)) l) b n
+of-node r node i e l {b} {n} c =
+    subst (λ v. Copied (value 2 (recordIn r .run)) (brokerAt v l) b n) (e ∙ ap (value 1) (run-in r (i .is))) c
 
 module _ (f : Run) (l : List Entry) {b : Bytes} {n : ℕ} (c : Copied (value 2 f) (brokerAt (value 1 f) l) b n) where
   pub none-changed : n ≡ 0 → {w : Bytes} {room : Room} → Good w room → Made (plan BrokerRegistrationChange f l) w room w room

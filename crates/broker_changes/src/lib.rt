@@ -2,14 +2,17 @@
 mod steps;
 
 use drafts::copy_in;
-use judge::find_named;
+use found::find_node;
 use judge::same_value;
+use keys::node_at;
+use model::NodeId;
 use moves::set;
 use steps::change;
 use work::Room;
 ghost use mathlib.Core.Path.{_≡_};
 ghost use Prim.Native.Nat.{_+_, _≤_};
 ghost use lib.ListN.{length};
+ghost use Rattle.model.specs.Number.{bytes};
 ghost use Rattle.model.specs.Run.{value};
 ghost use Rattle.model.specs.Move.{brokerAt, plan};
 ghost use Rattle.model.specs.declared.Kind.the-variants.{BrokerRegistrationChange};
@@ -19,15 +22,17 @@ ghost use Rattle.drafts.specs.Drafts.{draftRoom};
 ghost use Rattle.work.specs.Work.{Good, heldIn, mostRecord, Made};
 ghost use Rattle.broker_changes.specs.Change.{IsChange, Copied};
 
-// The kind of a broker's registration.
+// The kind of a broker's registration, and the tag of a change's node.
 const BROKER: u8 = 3;
 
-// Copies the broker of a change's node, where it is stored at the change's epoch, to the start of a buffer. Its length, 0 where there is none.
-fn copy_broker(b: &mut [u8], s: &[u8], rec: &[u8]) -> usize
+const NODE: usize = 1;
+
+// Copies the broker of a node, where it is stored at a change's epoch, to the start of a buffer. Its length, 0 where there is none.
+fn copy_broker(b: &mut [u8], s: &[u8], node: NodeId, rec: &[u8]) -> usize
     requires { ⌜ Entries (now s) × IsChange (now rec) × (draftRoom ≤ length (now b)) ⌝ }
-    ensures { λ r. ⌜ Copied (value 2 (recordIn (now (rec .entry)) .run)) (brokerAt (value 1 (recordIn (now (rec .entry)) .run)) (entriesIn (now (s .entry)))) (now (b .exit)) r ⌝ }
+    ensures { λ r. ⌜ Copied (value 2 (recordIn (now (rec .entry)) .run)) (brokerAt (bytes 8 (node .0)) (entriesIn (now (s .entry)))) (now (b .exit)) r ⌝ }
 {
-    let p = find_named(s, BROKER, rec);
+    let p = find_node(s, BROKER, node);
     let at = p.at;
     let end = p.end;
     if end <= at {
@@ -45,7 +50,7 @@ pub fn change_broker(w: &mut [u8], b: &mut [u8], room: Room, rec: &[u8]) -> Room
     ensures { λ r. ⌜ Made (plan BrokerRegistrationChange (recordIn (now (rec .entry)) .run) (heldIn (now (w .entry)) room)) (now (w .entry)) room (now (w .exit)) r ⌝ }
 {
     let mid = room.mid;
-    let n = copy_broker(b, &w[..mid], rec);
+    let n = copy_broker(b, &w[..mid], node_at(rec, NODE), rec);
     if n == 0 {
         return room;
     }

@@ -1,12 +1,13 @@
 -- What a caller of `next` learns, by the variant; and where the part lies that `field` found.
-use mathlib.Core.Path.{_≡_, sym, _∙_}
-use mathlib.Core.Option.{some}
+use mathlib.Core.Path.{_≡_, refl, sym, _∙_}
 use Prim.Native.Nat.{ℕ, _+_, _≤_, _<_}
+use native.Mathlib.Omega.{arith}
 use borrow.Author.Tests.{eq-eqb, ne-eqb}
-use lib.Seq.{slice}
+use lib.ListN.{length}
+use lib.Seq.{slice, length-slice}
 use Rattle.model.specs.Number.{Bytes}
-use Rattle.model.specs.Run.{Run, done, torn, item, field}
-use Rattle.fields.specs.Fields.{fieldsFrom, told, Onward, Within}
+use Rattle.model.specs.Run.{Run, done, torn, item}
+use Rattle.fields.specs.Fields.{fieldsFrom, told, Onward, placeOf, Within}
 use Rattle.fields.specs.declared.Cursor.{Cursor}
 use Rattle.fields.specs.declared.Found.{Found}
 use Rattle.fields.specs.declared.Found.the-variants.{Part}
@@ -32,7 +33,7 @@ pub record Moved (c : Cursor) (tag start len : ℕ) (next : Cursor) : Type 0 whe
   pub most : next .at ≤ c .to
   pub ends : next .to ≡ c .to
   pub part : start + len ≡ next .at
-  pub from : c .at ≤ start
+  pub from : start ≡ c .at + 3
   pub short : len < 65536
   pub byte : tag < 256
 
@@ -42,14 +43,21 @@ moved {c} {r} {tag} {start} {len} {next} h o =
     let q : Onward c (Field tag start len next) = rw h at o in
     record { onward = q .0; most = q .1; ends = q .2; part = q .3; from = q .4; short = q .5; byte = q .6 }
 
--- a field of the tag, and one of another
-pub field-hit : (tag t u : ℕ) (v : Bytes) (r p : Run) → p ≡ item u v r → t ≡ u → t ≡ tag → some v ≡ field tag p
-unfolding field
-field-hit tag t u v r p e f g = rw (e, ← f, eq-eqb _ _ g)
+-- a field of the tag at a cursor, and one of another
+module _ (s : Bytes) {c : Cursor} {tag start len : ℕ} {next : Cursor} (m : Moved c tag start len next) (fits : c .to ≤ length s)
+    (e : fieldsFrom s c ≡ item tag (slice start (start + len) s) (fieldsFrom s next)) where
+  value-long : length (slice start (start + len) s) ≡ len
+  value-long = length-slice start (start + len) s (omega arith) ∙ omega arith
 
-pub field-miss : (tag t u : ℕ) (v : Bytes) (r p : Run) → p ≡ item u v r → t ≡ u → (t ≡ tag → ⊥) → field tag r ≡ field tag p
-unfolding field
-field-miss tag t u v r p e f g = rw (e, ← f, ne-eqb _ _ g)
+  pub place-found : {sought : ℕ} → tag ≡ sought → Part start len ≡ placeOf sought (c .at) (fieldsFrom s c)
+  unfolding placeOf
+  place-found h = rw (e, eq-eqb _ _ h, value-long, m .from) refl
+
+  pub place-passed : {sought : ℕ} → (tag ≡ sought → ⊥) → placeOf sought (next .at) (fieldsFrom s next) ≡ placeOf sought (c .at) (fieldsFrom s c)
+  unfolding placeOf
+  place-passed h =
+      let q : c .at + 3 + len ≡ next .at = omega arith in
+      rw (e, ne-eqb _ _ h, value-long, q) refl
 
 -- a part lies within the bytes
 pub within-part : {to : ℕ} {r : Found} {start len : ℕ} → r ≡ Part start len → Within to r → start + len ≤ to

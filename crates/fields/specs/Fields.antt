@@ -1,7 +1,9 @@
 -- What the cursor's and the field lookup's answers mean, on the bytes that they speak of.
 use mathlib.Core.Path.{_≡_}
+use mathlib.Core.Bool.{cond}
 use mathlib.Core.Option.{Option, none, some}
 use Prim.Native.Nat.{ℕ, _+_, _≤_, _<_}
+use lib.Dec.{eqb}
 use lib.ListN.{length}
 use lib.Seq.{slice}
 use Rattle.model.specs.Number.{Bytes}
@@ -29,9 +31,15 @@ told s End = done
 -- a step goes on, and stays within the cursor's end
 unfoldable pub Onward : Cursor → Step → Type 0
 Onward c (Field tag start len next) =
-    (c .at < next .at) × (next .at ≤ c .to) × (next .to ≡ c .to) × (start + len ≡ next .at) × (c .at ≤ start) × (len < 65536) × (tag < 256)
+    (c .at < next .at) × (next .at ≤ c .to) × (next .to ≡ c .to) × (start + len ≡ next .at) × (start ≡ c .at + 3) × (len < 65536) × (tag < 256)
 Onward c Torn = Unit {0}
 Onward c End = Unit {0}
+
+-- where the first field of a tag has its value: behind its own tag and length, and behind the fields before it
+unfoldable pub placeOf : ℕ → ℕ → Run → Found
+placeOf tag at done = Missing
+placeOf tag at torn = Missing
+placeOf tag at (item t v r) = cond (eqb t tag) (Part (at + 3) (length v)) (placeOf tag (at + 3 + length v) r)
 
 -- the value that was found
 unfoldable pub held : Bytes → Found → Option Bytes

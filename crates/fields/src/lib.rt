@@ -2,8 +2,7 @@
 use wire::get16;
 use wire::size;
 ghost use mathlib.Core.Path.{_≡_};
-ghost use Rattle.model.specs.Run.{field as fieldOf};
-ghost use Rattle.fields.specs.Fields.{fieldsFrom, Inside, told, Onward, held, Within};
+ghost use Rattle.fields.specs.Fields.{fieldsFrom, Inside, told, Onward, placeOf};
 
 // Where the next field begins, and where the run ends.
 pub struct Cursor {
@@ -62,10 +61,10 @@ pub enum Found {
     Missing,
 }
 
-// The first field of a tag.
+// The first field of a tag, by its place. `reader` has what callers use.
 pub fn field(s: &[u8], from: Cursor, tag: usize) -> Found
     requires { ⌜ Inside (now s) from ⌝ }
-    ensures { λ r. ⌜ (held (now (s .entry)) r ≡ fieldOf tag (fieldsFrom (now (s .entry)) from)) × Within (from .to) r ⌝ }
+    ensures { λ r. ⌜ r ≡ placeOf tag (from .at) (fieldsFrom (now (s .entry)) from) ⌝ }
 {
     let mut c = from;
     loop {

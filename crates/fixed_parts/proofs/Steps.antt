@@ -1,6 +1,6 @@
 -- The three ways of the epoch's step, and the fixed parts after a record by its first byte.
 use mathlib.Core.Path.{_≡_, refl, _∙_}
-use mathlib.Core.Bool.{cond}
+use mathlib.Core.Bool.{false, cond}
 use Prim.Native.Nat.{ℕ, _+_, _≤_, _<_}
 use native.Mathlib.Omega.{arith}
 use borrow.Author.Tests.{eq-eqb, ne-eqb, le-leb, lt-leb, lt-ltb, le-ltb}
@@ -59,11 +59,11 @@ module _ (s : Bytes) (i : IsLogged s) where
   pub epoch-set : (e : ℕ) {r : ℕ} → kindIn s ≡ 13 → r ≡ number (value 1 (runIn s)) → r ≡ epochAfter (loggedIn s) e
   epoch-set e is q = q ∙ rw (ne-eqb (kindIn s) 11 (λ p. omega arith), eq-eqb (kindIn s) 13 is) at (epoch-by e)
 
-  pub epoch-kept : (e : ℕ) → (kindIn s ≡ 11 → ⊥) → (kindIn s ≡ 13 → ⊥) → e ≡ epochAfter (loggedIn s) e
-  epoch-kept e a b = rw (ne-eqb (kindIn s) 11 a, ne-eqb (kindIn s) 13 b) at (epoch-by e)
+  pub epoch-kept : (e : ℕ) → eqb (kindIn s) 11 ≡ false → eqb (kindIn s) 13 ≡ false → e ≡ epochAfter (loggedIn s) e
+  epoch-kept e a b = rw (a, b) at (epoch-by e)
 
   pub kraft-set : (v : ℕ) {r : ℕ} → kindIn s ≡ 10 → r ≡ number (value 1 (runIn s)) → r ≡ kraftAfter (loggedIn s) v
   kraft-set v is q = q ∙ rw (eq-eqb (kindIn s) 10 is) at (kraft-by v)
 
-  pub kraft-kept : (v : ℕ) → (kindIn s ≡ 10 → ⊥) → v ≡ kraftAfter (loggedIn s) v
-  kraft-kept v a = rw (ne-eqb (kindIn s) 10 a) at (kraft-by v)
+  pub kraft-kept : (v : ℕ) → eqb (kindIn s) 10 ≡ false → v ≡ kraftAfter (loggedIn s) v
+  kraft-kept v a = rw a at (kraft-by v)

@@ -1,10 +1,13 @@
 // Entries by what a query names, and the answer that a lookup gives of one.
 use entries::Place;
 use entries::seek;
+use model::NodeId;
 use probe::probe;
 use records::Answer;
 use shown::emit_shown;
 ghost use mathlib.Core.Path.{_≡_};
+ghost use mathlib.Core.List.{[]};
+ghost use Rattle.model.specs.Number.{bytes};
 ghost use Rattle.model.specs.Snapshot.{emit};
 ghost use Rattle.records.specs.Answers.{replied};
 ghost use Rattle.entries.specs.Entries.{recordsIn, Entries, Placed};
@@ -18,6 +21,16 @@ pub fn find(s: &[u8], kind: u8, first: &[u8], second: &[u8]) -> Place
     let mut p = [0; 519];
     let n = probe(&mut p, kind, first, second);
     seek(s, &p[..n])
+}
+
+// The place of a node's entry of a kind: a broker's or a controller's.
+pub fn find_node(s: &[u8], kind: u8, node: NodeId) -> Place
+    requires { ⌜ Entries (now s) × Query kind (bytes 8 (node .0)) [] ⌝ }
+    ensures { λ r. ⌜ Placed (now (s .entry)) (queryKey kind (bytes 8 (node .0)) []) (r .at) (r .end) ⌝ }
+{
+    let mut id = [0; 8];
+    wire::put(&mut id, 0, 8, node.0);
+    find(s, kind, &id, b"")
 }
 
 // Writes the record of the entry at a place to the start of an output. The bytes written, none where the place is empty; or 19 and nothing is

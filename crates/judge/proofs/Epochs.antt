@@ -25,15 +25,15 @@ use Rattle.judge.proofs.Held.{Held, held, held-run, none-run}
 
 -- 1. The broker of a node
 
-module _ (s rec : Bytes) {at end : ℕ} (p : Placed s (queryKey 3 (value 1 (runIn rec)) []) at end) where
-  pub same-broker : runAt (queryKey 3 (value 1 (runIn rec)) []) (entriesIn s) ≡ brokerAt (value 1 (runIn rec)) (entriesIn s)
-  same-broker = ap (λ k. runAt k (entriesIn s)) (broker-key (value 1 (runIn rec)))
+module _ (s rec node : Bytes) {at end : ℕ} (p : Placed s (queryKey 3 node []) at end) where
+  pub same-broker : runAt (queryKey 3 node []) (entriesIn s) ≡ brokerAt node (entriesIn s)
+  same-broker = ap (λ k. runAt k (entriesIn s)) (broker-key node)
 
-  pub no-broker : end ≤ at → false ≡ atEpoch (value 2 (runIn rec)) (brokerAt (value 1 (runIn rec)) (entriesIn s))
+  pub no-broker : end ≤ at → false ≡ atEpoch (value 2 (runIn rec)) (brokerAt node (entriesIn s))
   no-broker empty = sym (ap (atEpoch (value 2 (runIn rec))) (sym same-broker ∙ none-run s p empty))
 
   module _ (areBytes : AreBytes s) (whole : Entries s) (longer : at < end) where
-    pub broker-held : Held s (queryKey 3 (value 1 (runIn rec)) []) BrokerRegistration (take (end - at) (drop at s))
+    pub broker-held : Held s (queryKey 3 node []) BrokerRegistration (take (end - at) (drop at s))
     unfolding queryKey kindOf kinds keyOf keyRank rank
     broker-held = held s p areBytes whole longer BrokerRegistration refl (omega arith)
 
@@ -41,9 +41,14 @@ module _ (s rec : Bytes) {at end : ℕ} (p : Placed s (queryKey 3 (value 1 (runI
     broker-headed = headed _ (broker-held .is)
 
     pub broker-epoch : {b : Bool} → b ≡ sameBytes (value 2 (runIn (take (end - at) (drop at s)))) (value 2 (runIn rec))
-        → b ≡ atEpoch (value 2 (runIn rec)) (brokerAt (value 1 (runIn rec)) (entriesIn s))
+        → b ≡ atEpoch (value 2 (runIn rec)) (brokerAt node (entriesIn s))
     unfolding kindNumber
     broker-epoch q = q ∙ ap (atEpoch (value 2 (runIn rec))) (sym (held-run broker-held refl) ∙ same-broker)
+
+-- the node that a record's first field is
+pub of-node : (s rec : Bytes) {node : Bytes} → node ≡ value 1 (runIn rec)
+    → atEpoch (value 2 (runIn rec)) (brokerAt node (entriesIn s)) ≡ atEpoch (value 2 (runIn rec)) (brokerAt (value 1 (runIn rec)) (entriesIn s))
+of-node s rec e = ap (λ v. atEpoch (value 2 (runIn rec)) (brokerAt v (entriesIn s))) e
 
 -- 2. The stored producer ids
 

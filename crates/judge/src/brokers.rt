@@ -1,6 +1,4 @@
 // Records of brokers, of controllers and of producer ids, against the stored ones.
-use crate::lookups::find_named;
-use crate::lookups::is_stored;
 use crate::refusals::NOT_ABOVE;
 use crate::refusals::STALE_PRODUCER;
 use crate::refusals::UNKNOWN_CONTROLLER;
@@ -8,12 +6,14 @@ use crate::values::place_in;
 use crate::values::same_value;
 use crate::values::unless;
 use found::find;
-use keys::value_at;
+use found::find_node;
+use keys::node_at;
+use model::NodeId;
 ghost use mathlib.Core.Path.{_≡_};
 ghost use Prim.Native.Nat.{_≤_};
 ghost use lib.ListN.{length};
 ghost use Rattle.model.specs.Choice.{orThen, unless as unlessOf, isSome};
-ghost use Rattle.model.specs.Number.{number, place};
+ghost use Rattle.model.specs.Number.{number, bytes, place};
 ghost use Rattle.model.specs.Run.{value};
 ghost use Rattle.model.specs.Key.{nodeKey};
 ghost use Rattle.model.specs.Map.{get};
@@ -34,12 +34,12 @@ const CONTROLLER: u8 = 17;
 // Zero's place among signed numbers of eight bytes.
 const ZERO: u64 = 0x8000_0000_0000_0000;
 
-// Whether the broker of a record's first field is stored, at the epoch of its second.
-pub fn at_epoch(s: &[u8], rec: &[u8]) -> bool
-    requires { ⌜ Entries (now s) × (3 ≤ length (now rec)) × (length (value 1 (runIn (now rec))) ≡ 8) ⌝ }
-    ensures { λ r. ⌜ r ≡ atEpoch (value 2 (runIn (now (rec .entry)))) (brokerAt (value 1 (runIn (now (rec .entry)))) (entriesIn (now (s .entry)))) ⌝ }
+// Whether the broker of a node is stored, at the epoch of a record's second field.
+pub fn at_epoch(s: &[u8], node: NodeId, rec: &[u8]) -> bool
+    requires { ⌜ Entries (now s) × (3 ≤ length (now rec)) ⌝ }
+    ensures { λ r. ⌜ r ≡ atEpoch (value 2 (runIn (now (rec .entry)))) (brokerAt (bytes 8 (node .0)) (entriesIn (now (s .entry)))) ⌝ }
 {
-    let p = find_named(s, BROKER, rec);
+    let p = find_node(s, BROKER, node);
     let at = p.at;
     let end = p.end;
     if end <= at {
@@ -48,18 +48,13 @@ pub fn at_epoch(s: &[u8], rec: &[u8]) -> bool
     same_value(&s[at..end], rec, 2)
 }
 
-// Refuses where the controller of a record's first field is not stored.
-pub fn unknown_controller(s: &[u8], rec: &[u8]) -> u8
-    requires { ⌜ Entries (now s) × (3 ≤ length (now rec)) × (length (value 1 (runIn (now rec))) ≡ 8) ⌝ }
-    ensures { λ r. ⌜ r ≡ unlessOf (isSome (get key (nodeKey ControllerRegistration (value 1 (runIn (now (rec .entry))))) (entriesIn (now (s .entry))))) 10 ⌝ }
+// Refuses where the controller of a node is not stored.
+pub fn unknown_controller(s: &[u8], node: NodeId) -> u8
+    requires { ⌜ Entries (now s) ⌝ }
+    ensures { λ r. ⌜ r ≡ unlessOf (isSome (get key (nodeKey ControllerRegistration (bytes 8 (node .0))) (entriesIn (now (s .entry))))) 10 ⌝ }
 {
-    let p = value_at(rec, 1);
-    let start = p.start;
-    let end = p.end;
-    unless(
-        is_stored(s, CONTROLLER, &rec[start..end], b""),
-        UNKNOWN_CONTROLLER,
-    )
+    let p = find_node(s, CONTROLLER, node);
+    unless(p.at < p.end, UNKNOWN_CONTROLLER)
 }
 
 // The stored next producer id by its place among signed numbers; nothing stored counts as 0.
@@ -84,5 +79,5 @@ pub fn producer_fault(s: &[u8], rec: &[u8]) -> u8
     if place_in(rec, 3, 8) <= stored_next(s) {
         return NOT_ABOVE;
     }
-    unless(at_epoch(s, rec), STALE_PRODUCER)
+    unless(at_epoch(s, node_at(rec, 1), rec), STALE_PRODUCER)
 }

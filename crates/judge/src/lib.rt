@@ -11,12 +11,14 @@ pub use brokers::at_epoch;
 use brokers::producer_fault;
 pub use brokers::stored_next;
 use brokers::unknown_controller;
+use keys::node_at;
 use keys::value_at;
 pub use lookups::find_named;
 use proposals::proposal_fault;
 use refusals::EMPTY_SCOPE;
 use refusals::STALE_CHANGE;
 use refusals::STALE_UNREGISTRATION;
+use shape_faults::UNKNOWN_KIND;
 use topics::topic_exists;
 use topics::unknown_nested;
 use topics::unknown_partition;
@@ -57,7 +59,7 @@ pub fn judge(s: &[u8], rec: &[u8]) -> u8
         6 => 0,
         7 => 0,
         8 => producer_fault(s, rec),
-        9 => unless(at_epoch(s, rec), STALE_UNREGISTRATION),
+        9 => unless(at_epoch(s, node_at(rec, 1), rec), STALE_UNREGISTRATION),
         10 => 0,
         11 => 0,
         12 => 0,
@@ -72,8 +74,8 @@ pub fn judge(s: &[u8], rec: &[u8]) -> u8
         21 => unknown_partition(s, rec),
         22 => unknown_partition(s, rec),
         23 => unknown_nested(s, rec),
-        24 => unless(at_epoch(s, rec), STALE_CHANGE),
-        25 => unknown_controller(s, rec),
-        0 | 26..=255 => 0,
+        24 => unless(at_epoch(s, node_at(rec, 1), rec), STALE_CHANGE),
+        25 => unknown_controller(s, node_at(rec, 1)),
+        0 | 26..=255 => UNKNOWN_KIND,
     }
 }

@@ -5,7 +5,7 @@ use mathlib.Core.Option.{some}
 use Prim.Native.Nat.{ℕ, zero, suc, _<_, Ordering, Ordering·lt, Ordering·eq, Ordering·gt}
 use native.Mathlib.Omega.{arith}
 use lib.ListN.{length, getD, drop}
-use Rattle.model.specs.Number.{Bytes, AreBytes, number, span}
+use Rattle.model.specs.Number.{Bytes, AreBytes, number, bytes, span}
 use Rattle.model.specs.Order.{Key, thenBy, compareBytes, compareKeys}
 use Rattle.model.specs.Run.{Run, runOf, field, value, values}
 use Rattle.model.specs.Kind.{kindOf}
@@ -13,7 +13,7 @@ use Rattle.model.specs.Key.{rank, rankPart, numberPart, namePart, entitiesKey, 
 use Rattle.model.specs.declared.Kind.{Kind}
 use Rattle.model.specs.declared.Kind.the-variants.{Topic, Partition, BrokerRegistration, DeleteTopic, TopicConfig, BrokerConfig, ClientQuota, ProducerIds, UnregisterBroker, KRaftVersion, FeatureLevel, ClientMetricsConfig, FeaturesEpoch, PartitionDirAssignment, PartitionOffsetAdvance, GroupConfig, ControllerRegistration, TopicFreeze, BreakGlassProposal, DeleteBreakGlassProposal, PartitionElr, PartitionRecovery, PartitionUpdate, BrokerRegistrationChange, UnregisterController}
 use Rattle.laws.specs.Order.{lt-flip, rank-lt, bytes-total, keys-total}
-use Rattle.laws.specs.Numbers.{drop-are-bytes, number-bound}
+use Rattle.laws.specs.Numbers.{drop-are-bytes, number-bound, bytes-number}
 use Rattle.laws_records.specs.Runs.{AreFields, fields-run}
 use Rattle.laws_records.specs.Fields.{value-are-bytes}
 use Rattle.laws_image.specs.Ranks.{rank-injective, key-rank}
@@ -172,6 +172,13 @@ known-bytes (x ∷ s) h = (h 0, known-bytes s (λ i. h (suc i)))
 pub number-below : (s : Bytes) → AreBytes s → (tag width : ℕ) → length (value tag (runIn s)) ≡ width → number (value tag (runIn s)) < span width
 number-below s areBytes tag width wide =
     rw wide at (number-bound (value tag (runIn s)) (value-are-bytes tag (runIn s) (fields-run (drop 3 s) (drop-are-bytes 3 s areBytes))))
+
+-- the bytes that a field's number spells are its value
+pub spelt-value : (s : Bytes) → AreBytes s → (tag width : ℕ) → length (value tag (runIn s)) ≡ width → {n : ℕ} → n ≡ number (value tag (runIn s))
+    → bytes width n ≡ value tag (runIn s)
+spelt-value s areBytes tag width wide {n} e =
+    let are = value-are-bytes tag (runIn s) (fields-run (drop 3 s) (drop-are-bytes 3 s areBytes)) in
+    ap₂ bytes (sym wide) e ∙ bytes-number (value tag (runIn s)) are
 
 -- records of one rank: the same kind, or two that are in no snapshot
 same-kind : (r q : Run) → AreFields r → AreFields q → (k : Kind) → WidthsFit k r → WidthsFit k q → compareKeys (keyOf k r) (keyOf k q) ≡ byForm (keyForm k) r q

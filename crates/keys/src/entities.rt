@@ -2,8 +2,8 @@
 use fields::Cursor;
 use fields::Found;
 use fields::Step;
-use fields::field;
 use model::Order;
+use reader::field;
 ghost use mathlib.Core.Path.{_≡_};
 ghost use Rattle.model.specs.Order.{ordering};
 ghost use Rattle.model.specs.Run.{values};

@@ -2,21 +2,24 @@
 mod entities;
 
 use entities::compare_entities;
-use fields::Cursor;
 use fields::Found;
-use fields::field;
+use model::NodeId;
 use model::Order;
+use reader::find;
 ghost use mathlib.Core.Path.{_≡_};
 ghost use Prim.Native.Nat.{_≤_};
 ghost use lib.ListN.{length};
 ghost use lib.Seq.{slice};
-ghost use Rattle.model.specs.Number.{number, place};
+ghost use Rattle.model.specs.Number.{number, bytes, place};
 ghost use Rattle.model.specs.Order.{compareBytes, compareKeys, thenBy, ordering};
 ghost use Rattle.model.specs.Run.{value};
 ghost use Rattle.model.specs.Key.{partitionPart};
 ghost use Rattle.keys.specs.Keys.{runIn, rankOf, keyIn, Keyed};
 ghost use Rattle.keys.specs.Forms.{formOf, byForm, FormFits};
 ghost use Rattle.keys.specs.Entities.{Quotas};
+
+// Where a record's fields begin: after its kind and its body's length.
+const BODY: usize = 3;
 
 // A part of a slice.
 pub struct Part {
@@ -63,8 +66,7 @@ pub fn value_at(s: &[u8], tag: usize) -> Part
     requires { ⌜ 3 ≤ length (now s) ⌝ }
     ensures { λ r. ⌜ (slice (r .start) (r .end) (now (s .entry)) ≡ value tag (runIn (now (s .entry)))) × (r .start ≤ r .end) × (r .end ≤ length (now (s .entry))) ⌝ }
 {
-    let body = Cursor { at: 3, to: s.len() };
-    match field(s, body, tag) {
+    match find(s, BODY, tag) {
         Found::Part { start, len } => Part {
             start,
             end: start + len,
@@ -80,6 +82,14 @@ pub fn number_at(s: &[u8], tag: usize, width: usize) -> u64
 {
     let p = value_at(s, tag);
     wire::get(s, p.start, width)
+}
+
+// The node in a field.
+pub fn node_at(s: &[u8], tag: usize) -> NodeId
+    requires { ⌜ (3 ≤ length (now s)) × (length (value tag (runIn (now s))) ≡ 8) ⌝ }
+    ensures { λ r. ⌜ bytes 8 (r .0) ≡ value tag (runIn (now (s .entry))) ⌝ }
+{
+    NodeId(number_at(s, tag, 8))
 }
 
 // The order of two records' fields of a tag, by bytes.

@@ -154,9 +154,9 @@ pub enum Rated {
 }
 
 // The rate of a node by the config of a name.
-fn rate(image: &[u8], node: u64, name: &[u8]) -> Rated
+fn rate(image: &[u8], node: NodeId, name: &[u8]) -> Rated
     requires { ⌜ (isImage (now image) ≡ true) × (length (now name) ≤ 255) ⌝ }
-    ensures { λ r. ⌜ r ≡ ratedAs (throttleIn node (now (name .entry)) (contentsOf (now (image .entry)) .real)) ⌝ }
+    ensures { λ r. ⌜ r ≡ ratedAs (throttleIn (node .0) (now (name .entry)) (contentsOf (now (image .entry)) .real)) ⌝ }
 {
     let end = reals_end(image);
     match rate_in(&image[64..end], node, name) {
@@ -172,11 +172,14 @@ pub fn throttle(image: &[u8], node: NodeId, kind: u8) -> Rated
     if !is_image(image) {
         return Rated::Refused(NO_IMAGE);
     }
-    let of = node.0;
     match kind {
-        0 => rate(image, of, b"leader.replication.throttled.rate"),
-        1 => rate(image, of, b"follower.replication.throttled.rate"),
-        2 => rate(image, of, b"replica.alter.log.dirs.io.max.bytes.per.second"),
+        0 => rate(image, node, b"leader.replication.throttled.rate"),
+        1 => rate(image, node, b"follower.replication.throttled.rate"),
+        2 => rate(
+            image,
+            node,
+            b"replica.alter.log.dirs.io.max.bytes.per.second",
+        ),
         3..=255 => Rated::Refused(WRONG),
     }
 }

@@ -25,7 +25,7 @@ use Rattle.entries.proofs.Changes.{record-in}
 use Rattle.found.specs.Found.{Query, queryKey}
 use Rattle.judge.specs.Judge.{IsLogged, loggedIn}
 use Rattle.judge.proofs.Logged.{logged-in, run-in, passes, kind-is, value-of}
-use Rattle.judge.proofs.Queries.{controller-query, controller-key, proposal-query, proposal-key}
+use Rattle.judge.proofs.Queries.{controller-key, proposal-query, proposal-key}
 use Rattle.moves.specs.Moves.{IsPlain}
 use Rattle.moves.proofs.Singles.{setMove}
 use Rattle.work.specs.Work.{Good, heldIn, Made}
@@ -211,9 +211,9 @@ module _ (s : Bytes) (i : IsLogged s) where
   unfolding plan kindNumber
   proposal-made is m = by-kind s i DeleteBreakGlassProposal is (same-moves (ap (λ k. dropM k ∷ []) (proposal-key (value 1 (runIn s)))) m)
 
-  pub controller-asked : kindIn s ≡ 25 → Query 17 (value 1 (runIn s)) []
+  pub controller-width : kindIn s ≡ 25 → length (value 1 (runIn s)) ≡ 8
   unfolding rowsOf shapeOf kindNumber
-  controller-asked is = controller-query (value 1 (runIn s)) (value-of s i UnregisterController is 1 refl refl)
+  controller-width is = value-of s i UnregisterController is 1 refl refl
 
   pub controller-made : kindIn s ≡ 25 → {w v : Bytes} {room r : Room} → Made (dropM (queryKey 17 (value 1 (runIn s)) []) ∷ []) w room v r
       → Made (plan (loggedIn s .kind) (loggedIn s .run) (heldIn w room)) w room v r

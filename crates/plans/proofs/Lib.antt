@@ -1,2 +1,4 @@
 pub mod Arms
 pub mod ByKind
+pub mod Advance
+pub mod OnStates

@@ -1,15 +1,23 @@
-// The moves of a record, made on a work array: the kind number decides.
+// The moves of a record, made on a work array and its fixed parts: the kind number decides.
 mod members;
+mod states;
 mod tests;
 
-use advances::advance;
 use assignments::assign;
 use broker_changes::change_broker;
+use keys::node_at;
 use keys::value_at;
 use members::member;
 use members::quota;
 use moves::erase_named;
 use moves::set;
+use shape_faults::UNKNOWN_KIND;
+use states::add_offset;
+use states::with_epoch;
+use states::with_kraft;
+use states::with_level;
+use states::with_room;
+use tests::erase_node;
 use tests::producers;
 use tests::unregister;
 use topic_moves::delete_topic;
@@ -17,17 +25,19 @@ use topic_moves::put_partition;
 use topic_moves::put_topic;
 use updates::update;
 use work::Room;
+use work::State;
+use work::Tried;
 ghost use mathlib.Core.List.{[], _∷_};
 ghost use Prim.Native.Nat.{_≤_};
 ghost use lib.ListN.{length};
 ghost use Rattle.model.specs.Run.{value};
-ghost use Rattle.model.specs.Move.{dropM, plan};
+ghost use Rattle.model.specs.Move.{dropM};
 ghost use Rattle.keys.specs.Keys.{runIn};
 ghost use Rattle.found.specs.Found.{Query, queryKey};
 ghost use Rattle.judge.specs.Judge.{loggedIn};
 ghost use Rattle.drafts.specs.Drafts.{draftRoom};
-ghost use Rattle.work.specs.Work.{Good, heldIn, Made};
-ghost use Rattle.plans.specs.Plans.{Ready};
+ghost use Rattle.work.specs.Work.{Good, Made};
+ghost use Rattle.plans.specs.Plans.{Ready, Planned};
 
 // The kinds of the entries that a record of another kind takes out.
 const CONTROLLER: u8 = 17;
@@ -45,37 +55,38 @@ fn erase_first(w: &mut [u8], room: Room, kind: u8, rec: &[u8]) -> Room
     erase_named(w, room, kind, &rec[start..end])
 }
 
-// Makes the moves of a record that Read accepts; `a` and `b` are lent to build records in.
-pub fn make(w: &mut [u8], a: &mut [u8], b: &mut [u8], room: Room, rec: &[u8]) -> Room
-    requires { ⌜ Ready (now w) room (now rec) × (draftRoom ≤ length (now a)) × (draftRoom ≤ length (now b)) ⌝ }
-    ensures { λ r. ⌜ Made (plan (loggedIn (now (rec .entry)) .kind) (loggedIn (now (rec .entry)) .run) (heldIn (now (w .entry)) room)) (now (w .entry)) room (now (w .exit)) r ⌝ }
+// Makes the moves of a record that Read accepts, or refuses it: 17, where an offset's sum leaves i64. `a` and `b` are lent to build records in.
+pub fn make(w: &mut [u8], a: &mut [u8], b: &mut [u8], state: State, rec: &[u8]) -> Tried
+    requires { ⌜ Ready (now w) (state .room) (now rec) × (draftRoom ≤ length (now a)) × (draftRoom ≤ length (now b)) ⌝ }
+    ensures { λ r. ⌜ Planned (loggedIn (now (rec .entry))) (now (w .entry)) state (now (w .exit)) r ⌝ }
 {
+    let room = state.room;
     match rec[0] {
-        1 => put_topic(w, a, room, rec),
-        2 => put_partition(w, room, rec),
-        3 => set(w, room, rec),
-        4 => delete_topic(w, room, rec),
-        5 => set(w, room, rec),
-        6 => member(w, a, room, rec),
-        7 => quota(w, a, b, room, rec),
-        8 => producers(w, room, rec),
-        9 => unregister(w, room, rec),
-        10 => room,
-        11 => set(w, room, rec),
-        12 => set(w, room, rec),
-        13 => room,
-        14 => assign(w, a, room, rec),
-        15 => advance(w, a, room, rec),
-        16 => set(w, room, rec),
-        17 => set(w, room, rec),
-        18 => set(w, room, rec),
-        19 => set(w, room, rec),
-        20 => erase_first(w, room, PROPOSAL, rec),
-        21 => set(w, room, rec),
-        22 => set(w, room, rec),
-        23 => update(w, a, room, rec),
-        24 => change_broker(w, a, room, rec),
-        25 => erase_first(w, room, CONTROLLER, rec),
-        0 | 26..=255 => room,
+        1 => with_room(state, put_topic(w, a, room, rec)),
+        2 => with_room(state, put_partition(w, room, rec)),
+        3 => with_room(state, set(w, room, rec)),
+        4 => with_room(state, delete_topic(w, room, rec)),
+        5 => with_room(state, set(w, room, rec)),
+        6 => with_room(state, member(w, a, room, rec)),
+        7 => with_room(state, quota(w, a, b, room, rec)),
+        8 => with_room(state, producers(w, room, rec)),
+        9 => with_room(state, unregister(w, room, rec)),
+        10 => with_kraft(state, rec),
+        11 => with_level(state, set(w, room, rec)),
+        12 => with_room(state, set(w, room, rec)),
+        13 => with_epoch(state, rec),
+        14 => with_room(state, assign(w, a, room, rec)),
+        15 => add_offset(w, a, state, rec),
+        16 => with_room(state, set(w, room, rec)),
+        17 => with_room(state, set(w, room, rec)),
+        18 => with_room(state, set(w, room, rec)),
+        19 => with_room(state, set(w, room, rec)),
+        20 => with_room(state, erase_first(w, room, PROPOSAL, rec)),
+        21 => with_room(state, set(w, room, rec)),
+        22 => with_room(state, set(w, room, rec)),
+        23 => with_room(state, update(w, a, room, rec)),
+        24 => with_room(state, change_broker(w, a, room, rec)),
+        25 => with_room(state, erase_node(w, room, CONTROLLER, node_at(rec, 1))),
+        0 | 26..=255 => Tried::Refused(UNKNOWN_KIND),
     }
 }

@@ -1,19 +1,23 @@
-// Records that act only where what is stored says so.
+// Records that act only where what is stored says so, and entries of nodes that are taken out.
 use judge::at_epoch;
 use judge::place_in;
 use judge::stored_next;
-use keys::value_at;
+use keys::node_at;
+use model::NodeId;
 use moves::erase_named;
 use moves::set;
 use work::Room;
 ghost use mathlib.Core.Path.{_≡_};
+ghost use mathlib.Core.List.{[], _∷_};
 ghost use Prim.Native.Nat.{_+_, _≤_};
 ghost use lib.ListN.{length};
-ghost use Rattle.model.specs.Move.{plan};
+ghost use Rattle.model.specs.Number.{bytes};
+ghost use Rattle.model.specs.Move.{dropM, plan};
 ghost use Rattle.model.specs.declared.Kind.the-variants.{ProducerIds, UnregisterBroker};
 ghost use Rattle.laws.specs.Lists.{All};
 ghost use Rattle.laws_apply.specs.Entries.{Stored};
 ghost use Rattle.entries.specs.Entries.{IsRecord, recordIn};
+ghost use Rattle.found.specs.Found.{Query, queryKey};
 ghost use Rattle.work.specs.Work.{Good, heldIn, mostRecord, Made};
 
 // The kind of a broker's entry.
@@ -31,17 +35,25 @@ pub fn producers(w: &mut [u8], room: Room, rec: &[u8]) -> Room
     room
 }
 
+// Takes a node's entry of a kind out: a broker's or a controller's.
+pub fn erase_node(w: &mut [u8], room: Room, kind: u8, node: NodeId) -> Room
+    requires { ⌜ Good (now w) room × Query kind (bytes 8 (node .0)) [] ⌝ }
+    ensures { λ r. ⌜ Made (dropM (queryKey kind (bytes 8 (node .0)) []) ∷ []) (now (w .entry)) room (now (w .exit)) r ⌝ }
+{
+    let mut id = [0; 8];
+    wire::put(&mut id, 0, 8, node.0);
+    erase_named(w, room, kind, &id)
+}
+
 // Takes the broker of a record's node out, where it is stored at the record's epoch.
 pub fn unregister(w: &mut [u8], room: Room, rec: &[u8]) -> Room
     requires { ⌜ Good (now w) room × IsRecord (now rec) × (recordIn (now rec) .kind ≡ UnregisterBroker) ⌝ }
     ensures { λ r. ⌜ Made (plan UnregisterBroker (recordIn (now (rec .entry)) .run) (heldIn (now (w .entry)) room)) (now (w .entry)) room (now (w .exit)) r ⌝ }
 {
     let mid = room.mid;
-    if at_epoch(&w[..mid], rec) {
-        let p = value_at(rec, 1);
-        let start = p.start;
-        let end = p.end;
-        return erase_named(w, room, BROKER, &rec[start..end]);
+    let node = node_at(rec, 1);
+    if at_epoch(&w[..mid], node, rec) {
+        return erase_node(w, room, BROKER, node);
     }
     room
 }

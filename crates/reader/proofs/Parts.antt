@@ -14,8 +14,9 @@ use Rattle.model.specs.Run.{Run, torn, item, parse, runOf}
 use Rattle.laws.specs.Choice.{impossible}
 use Rattle.laws_records.specs.Runs.{parse-skip}
 use Rattle.fields.specs.Fields as fields
-use Rattle.fields.specs.Fields.{fieldsFrom, Onward}
+use Rattle.fields.specs.Fields.{fieldsFrom, Onward, placeOf}
 use Rattle.fields.specs.declared.Cursor.{Cursor}
+use Rattle.fields.specs.declared.Found.the-variants.{Missing}
 use Rattle.fields.specs.declared.Step.{Step}
 use Rattle.fields.specs.declared.Step.the-variants as cursor
 use Rattle.fields.proofs.Parse.{take-drop}
@@ -62,8 +63,12 @@ pub says-past : (s : Bytes) (at : ℕ) → length s < at → Says s at End
 unfolding parse told Placed
 says-past s at h = (rw (drop-of-length-le s {i = at} (omega arith)), tt)
 
+pub place-past : (s : Bytes) (at tag : ℕ) → length s < at → Missing ≡ placeOf tag at (runOf (drop at s))
+unfolding parse placeOf
+place-past s at tag h = rw (drop-of-length-le s {i = at} (omega arith))
+
 -- the fields from a cursor on, where its end is the bytes' end
-to-the-end : (s : Bytes) (c : Cursor) → c .to ≡ length s → fieldsFrom s c ≡ runOf (drop (c .at) s)
+pub to-the-end : (s : Bytes) (c : Cursor) → c .to ≡ length s → fieldsFrom s c ≡ runOf (drop (c .at) s)
 to-the-end s c whole = rw (whole, take-length)
 
 -- what such a cursor's step says, by the variant

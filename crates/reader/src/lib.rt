@@ -1,10 +1,14 @@
 // A reader over a record's bytes and an offset. It holds a slice, so each function over it is thin: it takes the reader apart and leaves the
-// work to a function on the slice and the number. `first` has plain parameters and serves callers that hold no reader.
+// work to a function on the slice and the number. `find`, `field` and `first` have plain parameters and serve callers that hold no reader: every
+// operation reads its records' fields by tag through them.
 use fields::Cursor;
+use fields::Found;
 use fields::Step;
 ghost use mathlib.Core.Path.{_≡_};
 ghost use Prim.Native.Nat.{_-_};
-ghost use lib.ListN.{length};
+ghost use lib.ListN.{length, drop};
+ghost use Rattle.model.specs.Run.{runOf, field as fieldOf};
+ghost use Rattle.fields.specs.Fields.{fieldsFrom, Inside, placeOf, held, Within};
 ghost use Rattle.reader.specs.Says.{Says};
 
 // What stands at a place.
@@ -51,6 +55,16 @@ pub fn field_at(s: &[u8], at: usize) -> Next
     }
 }
 
+// Where the first field of a tag from `at` on has its value; past the end of `s` there is none.
+pub fn place_at(s: &[u8], at: usize, tag: usize) -> Found
+    ensures { λ r. ⌜ r ≡ placeOf tag at (runOf (drop at (now (s .entry)))) ⌝ }
+{
+    if s.len() < at {
+        return Found::Missing;
+    }
+    fields::field(s, Cursor { at, to: s.len() }, tag)
+}
+
 // How many bytes stand from `at` on.
 pub fn left_at(s: &[u8], at: usize) -> usize
     ensures { λ r. ⌜ r ≡ length (now (s .entry)) - at ⌝ }
@@ -81,6 +95,13 @@ impl<'a> Reader<'a> {
         field_at(self.src, self.at)
     }
 
+    // Where the first field of a tag from the reader's place on has its value.
+    pub fn field(self, tag: usize) -> Found
+        ensures { λ r. ⌜ r ≡ placeOf tag (self .entry .at) (runOf (drop (self .entry .at) (now (self .entry .src)))) ⌝ }
+    {
+        place_at(self.src, self.at, tag)
+    }
+
     // The same bytes, at another place.
     pub fn moved(self, at: usize) -> Reader<'a>
         ensures { λ r. ⌜ (r .src ≡ self .entry .src) × (r .at ≡ at) ⌝ }
@@ -101,4 +122,21 @@ pub fn first(s: &[u8]) -> Next
     ensures { λ r. ⌜ Says (now (s .entry)) 3 r ⌝ }
 {
     Reader::new(s, 3).next()
+}
+
+// Where the first field of a tag from `at` on has its value.
+pub fn find(s: &[u8], at: usize, tag: usize) -> Found
+    ensures { λ r. ⌜ r ≡ placeOf tag at (runOf (drop at (now (s .entry)))) ⌝ }
+{
+    Reader::new(s, at).field(tag)
+}
+
+// The same of the fields between a cursor's two places.
+pub fn field(s: &[u8], from: Cursor, tag: usize) -> Found
+    requires { ⌜ Inside (now s) from ⌝ }
+    ensures { λ r. ⌜ (held (now (s .entry)) r ≡ fieldOf tag (fieldsFrom (now (s .entry)) from)) × Within (from .to) r ⌝ }
+{
+    let at = from.at;
+    let to = from.to;
+    find(&s[..to], at, tag)
 }

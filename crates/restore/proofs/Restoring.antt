@@ -27,12 +27,13 @@ use Rattle.judge.specs.Judge.{loggedIn}
 use Rattle.validate.proofs.Verdicts.{it, logged-is}
 use Rattle.work.specs.Work.{Good}
 use Rattle.rebuild.specs.Rebuild.{Rebuilt}
-use Rattle.attempt.specs.Step.{stateIn, Holding, outcome, StillHolding}
+use Rattle.work.specs.Work.{stateIn}
+use Rattle.attempt.specs.Step.{Holding, outcome, StillHolding}
 use Rattle.records.proofs.Replies.{refused-bad}
 use Rattle.restore.specs.Restore.{NextIs, replayed, wholeContents, Whole, RanAs}
-use Rattle.attempt.specs.declared.State.{State}
-use Rattle.attempt.specs.declared.Tried.{Tried}
-use Rattle.attempt.specs.declared.Tried.the-variants.{Refused as TriedRefused, Moved as TriedMoved}
+use Rattle.work.specs.declared.State.{State}
+use Rattle.work.specs.declared.Tried.{Tried}
+use Rattle.work.specs.declared.Tried.the-variants.{Refused as TriedRefused, Moved as TriedMoved}
 use Rattle.restore.specs.declared.Next.{Next}
 use Rattle.restore.specs.declared.Next.the-variants.{Moved, Unread, Refused}
 use Rattle.restore.specs.declared.Ran.{Ran}

@@ -1,6 +1,4 @@
 // Restore: the image of some records, from nothing.
-use attempt::State;
-use attempt::Tried;
 use attempt::step;
 use header::NO_EPOCH;
 use header::NO_IMAGE;
@@ -10,6 +8,8 @@ use rebuild::rebuild;
 use records::Answer;
 use records::read;
 use work::Room;
+use work::State;
+use work::Tried;
 ghost use mathlib.Core.Path.{_≡_};
 ghost use mathlib.Core.Bool.{true};
 ghost use Prim.Native.Nat.{_≤_};

@@ -2,8 +2,8 @@
 use fields::Cursor;
 use fields::Found;
 use fields::Step;
-use fields::field;
 use model::Order;
+use reader::field;
 use shapes::form_in;
 use shapes::many_in;
 use shapes::prior_in;

@@ -1,14 +1,16 @@
 -- A walk over slots: how long the records of those to come are, and what is written of those that are passed.
-use mathlib.Core.Path.{_≡_, refl, ap, ap₂, _∙_}
+use mathlib.Core.Path.{_≡_, refl, sym, ap, ap₂, _∙_}
 use mathlib.Core.Bool.{Bool, true, false, cond}
 use mathlib.Core.List.{[], _++_}
 use Prim.Native.Nat.{ℕ, suc, _+_, _-_, _*_, _≤_, _<_}
 use native.Mathlib.Omega.{arith}
 use lib.ListN.{length, take, drop}
-use lib.Seq.{drop-drop}
-use Rattle.model.specs.Number.{Bytes}
+use lib.Seq.{slice, length-slice, drop-drop}
+use Rattle.model.specs.Number.{Bytes, AreBytes, number, bytes}
 use Rattle.model.specs.Order.{sameBytes}
 use Rattle.model.specs.Downgrade.{migrating}
+use Rattle.laws.specs.Numbers.{slice-are-bytes, bytes-number}
+use Rattle.keys.proofs.Found.{lent-slice}
 use Rattle.records.specs.Answers.{written}
 use Rattle.records.proofs.Growing.{Growing, grow-start, part-fits, grow, grown}
 use Rattle.slots.specs.Slots.{slotBytes, slotsBytes, slotSize, slotsSize}
@@ -20,6 +22,15 @@ lent width at l = take (at + width - at) (drop at l)
 
 lent-part : (width at : ℕ) (l : Bytes) → take width (drop at l) ≡ lent width at l
 lent-part width at l = let e : width ≡ at + width - at = omega arith in ap (λ n. take n (drop at l)) e
+
+-- a node's number spells its bytes
+pub node-lent : (nodes : Bytes) → AreBytes nodes → (i : ℕ) → i * 8 + 8 ≤ length nodes → {m : ℕ} → m ≡ number (slice (i * 8) (i * 8 + 8) nodes)
+    → bytes 8 m ≡ lent 8 (i * 8) nodes
+node-lent nodes are i fits e =
+    let at = i * 8 in
+    let here = slice at (at + 8) nodes in
+    let eight : length here ≡ 8 = length-slice at (at + 8) nodes fits ∙ omega arith in
+    ap₂ bytes (sym eight) e ∙ bytes-number here (slice-are-bytes at (at + 8) nodes are) ∙ sym (lent-slice nodes at (at + 8) (omega arith))
 
 next-node : (i : ℕ) (l : Bytes) → drop 8 (drop (i * 8) l) ≡ drop ((i + 1) * 8) l
 next-node i l = let e : i * 8 + 8 ≡ (i + 1) * 8 = omega arith in drop-drop 8 (i * 8) l ∙ ap (λ n. drop n l) e
@@ -116,15 +127,18 @@ module _ {name number nodes dirs out w : Bytes} {at count i to : ℕ} (h : Wrote
       grown (h .grows)
       (ap (λ n. slotsBytes name number n (drop (i * 8) nodes) (drop (i * 16) dirs)) last ∙ bytes-none name number (drop (i * 8) nodes) (drop (i * 16) dirs))
 
-  module _ (inside : i < count) where
+  module _ (inside : i < count) {node : Bytes} (is : node ≡ lent 8 (i * 8) nodes) where
     abbrev here : Bytes
-    here = slotBytes name number (lent 8 (i * 8) nodes) (lent 16 (i * 16) dirs)
+    here = slotBytes name number node (lent 16 (i * 16) dirs)
 
     abbrev later : Bytes
     later = slotsBytes name number (count - (i + 1)) (drop ((i + 1) * 8) nodes) (drop ((i + 1) * 16) dirs)
 
+    step : slotsBytes name number (count - i) (drop (i * 8) nodes) (drop (i * 16) dirs) ≡ here ++ later
+    step = bytes-step name number nodes dirs count i inside ∙ ap (λ v. slotBytes name number v (lent 16 (i * 16) dirs) ++ later) (sym is)
+
     pub slot-room : to + length here ≤ length w
-    slot-room = part-fits (h .grows) here later (bytes-step name number nodes dirs count i inside)
+    slot-room = part-fits (h .grows) here later step
 
     pub write-turn : {v : Bytes} {n : ℕ} → (n ≡ to + length here) × (v ≡ written w to here) → Wrote name number nodes dirs out v at count (i + 1) n
-    write-turn q = record { low = omega arith; grows = grow (h .grows) here later (bytes-step name number nodes dirs count i inside) q }
+    write-turn q = record { low = omega arith; grows = grow (h .grows) here later step q }

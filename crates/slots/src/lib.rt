@@ -1,11 +1,13 @@
 // The directory assignments of a partition: a record for each slot that both its replicas and its directories have, unless the slot's
 // directory is MIGRATING, all zeros.
 use keys::value_at;
+use model::NodeId;
 use records::put_field;
 use records::put_head;
 ghost use mathlib.Core.Path.{_≡_};
 ghost use Prim.Native.Nat.{_+_, _*_, _≤_};
 ghost use lib.ListN.{length};
+ghost use Rattle.model.specs.Number.{bytes};
 ghost use Rattle.model.specs.Record.{recordBytes};
 ghost use Rattle.model.specs.Downgrade.{slots};
 ghost use Rattle.keys.specs.Keys.{kindIn, runIn};
@@ -82,15 +84,24 @@ fn put_assignment(out: &mut [u8], at: usize, name: &[u8], number: &[u8], node: &
 }
 
 // Writes the record of a slot, if it has one. Where it ends.
-fn put_slot(out: &mut [u8], at: usize, name: &[u8], number: &[u8], node: &[u8], dir: &[u8]) -> usize
-    requires { ⌜ at + length (slotBytes (now name) (now number) (now node) (now dir)) ≤ length (now out) ⌝ }
-    ensures { λ r. ⌜ (r ≡ at + length (slotBytes (now (name .entry)) (now (number .entry)) (now (node .entry)) (now (dir .entry)))) × (now (out .exit) ≡ written (now (out .entry)) at (slotBytes (now (name .entry)) (now (number .entry)) (now (node .entry)) (now (dir .entry)))) ⌝ }
+fn put_slot(
+    out: &mut [u8],
+    at: usize,
+    name: &[u8],
+    number: &[u8],
+    node: NodeId,
+    dir: &[u8],
+) -> usize
+    requires { ⌜ at + length (slotBytes (now name) (now number) (bytes 8 (node .0)) (now dir)) ≤ length (now out) ⌝ }
+    ensures { λ r. ⌜ (r ≡ at + length (slotBytes (now (name .entry)) (now (number .entry)) (bytes 8 (node .0)) (now (dir .entry)))) × (now (out .exit) ≡ written (now (out .entry)) at (slotBytes (now (name .entry)) (now (number .entry)) (bytes 8 (node .0)) (now (dir .entry)))) ⌝ }
 {
     let migrating = MIGRATING;
     if wire::same(dir, &migrating) {
         return at;
     }
-    put_assignment(out, at, name, number, node)
+    let mut id = [0; 8];
+    wire::put(&mut id, 0, 8, node.0);
+    put_assignment(out, at, name, number, &id)
 }
 
 // Writes the records of the first slots. Where they end.
@@ -109,18 +120,10 @@ fn put_slots(
     let mut to = at;
     let mut i = 0;
     while i < count {
-        let node = i * 8;
-        let node_end = node + 8;
         let dir = i * 16;
         let dir_end = dir + 16;
-        to = put_slot(
-            out,
-            to,
-            name,
-            number,
-            &nodes[node..node_end],
-            &dirs[dir..dir_end],
-        );
+        let node = NodeId(wire::get(nodes, i * 8, 8));
+        to = put_slot(out, to, name, number, node, &dirs[dir..dir_end]);
         i += 1;
     }
     to

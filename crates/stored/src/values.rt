@@ -1,9 +1,9 @@
 // Tests of one field of an entry.
 use fields::Cursor;
 use fields::Found;
-use fields::field;
 use keys::number_at;
 use keys::value_at;
+use reader::field;
 ghost use mathlib.Core.Path.{_≡_};
 ghost use Prim.Native.Nat.{_≤_};
 ghost use lib.ListN.{length};

@@ -1,10 +1,11 @@
 // The rate of a node: what a config of it says, else what the default node's says.
 use fields::Cursor;
 use fields::Found;
-use fields::field;
 use found::find;
+use model::NodeId;
 use rates::Rate;
 use rates::rate_of;
+use reader::field;
 ghost use mathlib.Core.Path.{_≡_};
 ghost use Prim.Native.Nat.{_≤_};
 ghost use lib.ListN.{length};
@@ -24,12 +25,12 @@ const VALUE: usize = 3;
 const DEFAULT: u64 = 0xffff_ffff_ffff_ffff;
 
 // The value of a node's config of a name.
-fn config_at(s: &[u8], node: u64, name: &[u8]) -> Found
+fn config_at(s: &[u8], node: NodeId, name: &[u8]) -> Found
     requires { ⌜ Entries (now s) × (length (now name) ≤ 255) ⌝ }
-    ensures { λ r. ⌜ (held (now (s .entry)) r ≡ configAt node (now (name .entry)) (entriesIn (now (s .entry)))) × Within (length (now (s .entry))) r ⌝ }
+    ensures { λ r. ⌜ (held (now (s .entry)) r ≡ configAt (node .0) (now (name .entry)) (entriesIn (now (s .entry)))) × Within (length (now (s .entry))) r ⌝ }
 {
     let mut id = [0; 8];
-    wire::put(&mut id, 0, 8, node);
+    wire::put(&mut id, 0, 8, node.0);
     let p = find(s, CONFIG, &id, name);
     let at = p.at;
     let end = p.end;
@@ -51,7 +52,7 @@ fn default_rate(s: &[u8], name: &[u8]) -> Rate
     requires { ⌜ Entries (now s) × (length (now name) ≤ 255) ⌝ }
     ensures { λ r. ⌜ rated r ≡ rateBy (configAt defaultNode (now (name .entry)) (entriesIn (now (s .entry)))) ⌝ }
 {
-    match config_at(s, DEFAULT, name) {
+    match config_at(s, NodeId(DEFAULT), name) {
         Found::Part { start, len } => {
             let end = start + len;
             rate_of(&s[start..end])
@@ -61,9 +62,9 @@ fn default_rate(s: &[u8], name: &[u8]) -> Rate
 }
 
 // The rate of a node by the config of a name: its own entry's, else the default node's. An own value that does not read is none.
-pub fn rate_in(s: &[u8], node: u64, name: &[u8]) -> Rate
+pub fn rate_in(s: &[u8], node: NodeId, name: &[u8]) -> Rate
     requires { ⌜ Entries (now s) × (length (now name) ≤ 255) ⌝ }
-    ensures { λ r. ⌜ rated r ≡ throttle node (now (name .entry)) (entriesIn (now (s .entry))) ⌝ }
+    ensures { λ r. ⌜ rated r ≡ throttle (node .0) (now (name .entry)) (entriesIn (now (s .entry))) ⌝ }
 {
     match config_at(s, node, name) {
         Found::Part { start, len } => {

@@ -13,6 +13,7 @@ use Rattle.laws_records.specs.Lengths.{longestBody}
 use Rattle.entries.specs.Entries.{recordsIn, Entries}
 use Rattle.found.specs.Found.{AllKept}
 use Rattle.work.specs.declared.Room.{Room}
+use Rattle.work.specs.declared.State.{State}
 
 abbrev pub realsIn : Bytes → Room → List Rec
 realsIn w room = recordsIn (take (room .mid) w)
@@ -34,6 +35,13 @@ heldIn w room = map entryOf (realsIn w room)
 
 abbrev pub contentsIn : Bytes → Room → Fixed → Contents
 contentsIn w room f = record { real = heldIn w room; empties = groupsIn w room; fixed = f }
+
+-- the same with the fixed parts of a state
+abbrev pub fixedParts : State → Fixed
+fixedParts s = record { epoch = s .epoch; kraft = s .kraft }
+
+abbrev pub stateIn : Bytes → State → Contents
+stateIn w s = contentsIn w (s .room) (fixedParts s)
 
 -- no record is longer: three bytes, and the longest body
 abbrev pub mostRecord : ℕ

@@ -24,6 +24,19 @@ pub struct Room {
     pub used: usize,
 }
 
+// What a work array holds: where its entries stand, and the fixed parts.
+pub struct State {
+    pub room: Room,
+    pub epoch: u64,
+    pub kraft: u64,
+}
+
+// A record's refusal, or the state after its moves.
+pub enum Tried {
+    Refused(u8),
+    Moved(State),
+}
+
 // Puts a record among the real entries.
 pub fn put_real(w: &mut [u8], room: Room, rec: &[u8]) -> Room
     requires { ⌜ Good (now w) room × IsRecord (now rec) × (kept (entryOf (recordIn (now rec))) ≡ recordIn (now rec)) × (room .used + length (now rec) ≤ length (now w)) ⌝ }

@@ -3,13 +3,17 @@ use mathlib.Core.Path.{refl, ap, _∙_}
 use mathlib.Core.Bool.{not}
 use native.Mathlib.Omega.{arith}
 use borrow.Author.Needs.{needs}
-use Rattle.model.specs.Choice.{unless}
+use Rattle.model.specs.Choice.{unless, isSome}
 use Rattle.model.specs.Kind.{kindNumber}
 use Rattle.model.specs.Shape.{rowsOf, shapeOf}
+use Rattle.model.specs.Key.{nodeKey}
+use Rattle.model.specs.Map.{get}
+use Rattle.model.specs.Contents.{key}
 use Rattle.model.specs.Validate.{alone, against}
 use Rattle.model.specs.declared.Kind.the-variants.{Topic, Partition, BrokerRegistration, DeleteTopic, TopicConfig, BrokerConfig, ClientQuota, ProducerIds, UnregisterBroker, KRaftVersion, FeatureLevel, ClientMetricsConfig, FeaturesEpoch, PartitionDirAssignment, PartitionOffsetAdvance, GroupConfig, ControllerRegistration, TopicFreeze, BreakGlassProposal, DeleteBreakGlassProposal, PartitionElr, PartitionRecovery, PartitionUpdate, BrokerRegistrationChange, UnregisterController}
 use Rattle.laws.specs.Refused.{no-kind}
-use Rattle.judge.specs.Judge.{emptyScope}
+use Rattle.judge.specs.Judge.{entriesIn, emptyScope}
+use Rattle.judge.proofs.Epochs.{of-node}
 use Rattle.judge.proofs.Logged.{headed, kind-zero, kind-past, value-of, judged, judged-alone, topic-logged, nested-logged}
 use Rattle.judge.proofs.judge.Statement.{statement}
 use Rattle.judge.proofs.judge.Tie as tie
@@ -38,9 +42,12 @@ producer-fault-requires c κs =
     let p = c .before .before .before .before .pre in
     (p .0, headed _ (p .1), value-of _ (p .1) ProducerIds (c .match .keys8) 1 refl refl, value-of _ (p .1) ProducerIds (c .match .keys8) 3 refl refl)
 
-at-epoch-requires : tie.Need-at-epoch-requires
+node-at-requires : tie.Need-node-at-requires
 unfolding rowsOf shapeOf kindNumber
-at-epoch-requires c κs = let p = c .before .before .before .before .pre in (p .0, headed _ (p .1), value-of _ (p .1) UnregisterBroker (c .match .keys9) 1 refl refl)
+node-at-requires c κs = let p = c .before .before .before .before .pre in (headed _ (p .1), value-of _ (p .1) UnregisterBroker (c .match .keys9) 1 refl refl)
+
+at-epoch-requires : tie.Need-at-epoch-requires
+at-epoch-requires c κs = let p = c .before .before .before .before .before .pre in (p .0, headed _ (p .1))
 
 unless-requires : tie.Need-unless-requires
 unless-requires c κs = search needs
@@ -73,16 +80,23 @@ unknown-partition-requires-2 c κs =
 unknown-nested-requires : tie.Need-unknown-nested-requires
 unknown-nested-requires c κs = let p = c .before .before .before .before .pre in (p .0, headed _ (p .1), nested-logged _ (p .1) (c .match .keys23))
 
-at-epoch-requires-2 : tie.Need-at-epoch-requires-2
+node-at-requires-2 : tie.Need-node-at-requires-2
 unfolding rowsOf shapeOf kindNumber
-at-epoch-requires-2 c κs = let p = c .before .before .before .before .pre in (p .0, headed _ (p .1), value-of _ (p .1) BrokerRegistrationChange (c .match .keys24) 1 refl refl)
+node-at-requires-2 c κs =
+    let p = c .before .before .before .before .pre in (headed _ (p .1), value-of _ (p .1) BrokerRegistrationChange (c .match .keys24) 1 refl refl)
+
+at-epoch-requires-2 : tie.Need-at-epoch-requires-2
+at-epoch-requires-2 c κs = let p = c .before .before .before .before .before .pre in (p .0, headed _ (p .1))
 
 unless-requires-3 : tie.Need-unless-requires-3
 unless-requires-3 c κs = search needs
 
-unknown-controller-requires : tie.Need-unknown-controller-requires
+node-at-requires-3 : tie.Need-node-at-requires-3
 unfolding rowsOf shapeOf kindNumber
-unknown-controller-requires c κs = let p = c .before .before .before .before .pre in (p .0, headed _ (p .1), value-of _ (p .1) UnregisterController (c .match .keys25) 1 refl refl)
+node-at-requires-3 c κs = let p = c .before .before .before .before .pre in (headed _ (p .1), value-of _ (p .1) UnregisterController (c .match .keys25) 1 refl refl)
+
+unknown-controller-requires : tie.Need-unknown-controller-requires
+unknown-controller-requires c κs = c .before .before .before .before .before .pre .0
 
 returns : tie.Need-returns
 unfolding alone against kindNumber
@@ -119,8 +133,9 @@ returns-8 c = c .producer-fault .ensures ∙ judged _ (c .before .before .before
 returns-9 : tie.Need-returns-9
 unfolding alone against kindNumber
 returns-9 c =
-    c .unless .ensures ∙ ap (λ x. unless x 9) (c .before .at-epoch .ensures)
-    ∙ judged _ (c .before .before .before .before .before .before .pre .1) UnregisterBroker (c .before .before .match .keys9) _
+    let start = c .before .before .before .before .before .before .before in
+    c .unless .ensures ∙ ap (λ x. unless x 9) (c .before .at-epoch .ensures ∙ of-node (start .args .s .now) (start .args .rec .now) (c .before .before .node-at .ensures))
+    ∙ judged _ (start .pre .1) UnregisterBroker (c .before .before .before .match .keys9) _
 
 returns-10 : tie.Need-returns-10
 unfolding alone against kindNumber
@@ -183,12 +198,17 @@ returns-23 c = c .unknown-nested .ensures ∙ judged _ (c .before .before .befor
 returns-24 : tie.Need-returns-24
 unfolding alone against kindNumber
 returns-24 c =
-    c .unless3 .ensures ∙ ap (λ x. unless x 8) (c .before .at-epoch2 .ensures)
-    ∙ judged _ (c .before .before .before .before .before .before .pre .1) BrokerRegistrationChange (c .before .before .match .keys24) _
+    let start = c .before .before .before .before .before .before .before in
+    c .unless3 .ensures ∙ ap (λ x. unless x 8) (c .before .at-epoch2 .ensures ∙ of-node (start .args .s .now) (start .args .rec .now) (c .before .before .node-at2 .ensures))
+    ∙ judged _ (start .pre .1) BrokerRegistrationChange (c .before .before .before .match .keys24) _
 
 returns-25 : tie.Need-returns-25
 unfolding alone against kindNumber
-returns-25 c = c .unknown-controller .ensures ∙ judged _ (c .before .before .before .before .before .pre .1) UnregisterController (c .before .match .keys25) _
+returns-25 c =
+    let start = c .before .before .before .before .before .before in
+    c .unknown-controller .ensures
+    ∙ ap (λ v. unless (isSome (get key (nodeKey ControllerRegistration v) (entriesIn (start .args .s .now)))) 10) (c .before .node-at3 .ensures)
+    ∙ judged _ (start .pre .1) UnregisterController (c .before .before .match .keys25) _
 
 returns-26 : tie.Need-returns-26
 returns-26 c = kind-zero _ (c .before .before .before .before .pre .1) (c .match .keys26)
@@ -206,6 +226,7 @@ judge-spec =
     unknown-topic-requires-2
     unknown-topic-requires-3
     producer-fault-requires
+    node-at-requires
     at-epoch-requires
     unless-requires
     empty-scope-requires
@@ -214,8 +235,10 @@ judge-spec =
     unknown-partition-requires
     unknown-partition-requires-2
     unknown-nested-requires
+    node-at-requires-2
     at-epoch-requires-2
     unless-requires-3
+    node-at-requires-3
     unknown-controller-requires
     returns
     returns-2

@@ -1,8 +1,9 @@
 -- `slots::put_slots` meets its contract. The invariant: what is written, and the records to come, are all.
 use Prim.Native.Nat.{_-_}
 use native.Mathlib.Omega.{arith}
+use Rattle.keys.proofs.Keys.{known-bytes}
 use Rattle.records.proofs.Growing.{grown-length}
-use Rattle.slots.proofs.Walks.{Wrote, write-start, slot-room, write-turn, wrote}
+use Rattle.slots.proofs.Walks.{node-lent, Wrote, write-start, slot-room, write-turn, wrote}
 use Rattle.slots.proofs.put_slots.Statement.{statement}
 use Rattle.slots.proofs.put_slots.Tie as tie
 
@@ -15,17 +16,17 @@ abbrev μ-loop : tie.MeasureT-loop
 loop-holds : tie.Need-loop-holds Inv-loop μ-loop
 loop-holds c = write-start _ _ _ _ _ _ _ (c .before .before .before .before .before .pre .2)
 
-mul-node : tie.Need-mul-node Inv-loop μ-loop
-mul-node c = omega arith
-
-add-node-end : tie.Need-add-node-end Inv-loop μ-loop
-add-node-end c = omega arith
-
 mul-dir : tie.Need-mul-dir Inv-loop μ-loop
 mul-dir c = omega arith
 
 add-dir-end : tie.Need-add-dir-end Inv-loop μ-loop
 add-dir-end c = omega arith
+
+mul-get : tie.Need-mul-get Inv-loop μ-loop
+mul-get c = omega arith
+
+get-requires : tie.Need-get-requires Inv-loop μ-loop
+get-requires c κs = (omega arith, omega (arith, c .before .before .before .before .before .before .before .pre .0))
 
 sub-put-slot : tie.Need-sub-put-slot Inv-loop μ-loop
 sub-put-slot c = omega arith
@@ -36,17 +37,12 @@ part-put-slot-start c = omega arith
 part-put-slot-end : tie.Need-part-put-slot-end Inv-loop μ-loop
 part-put-slot-end c = omega arith
 
-sub-put-slot-2 : tie.Need-sub-put-slot-2 Inv-loop μ-loop
-sub-put-slot-2 c = omega arith
-
-part-put-slot-start-2 : tie.Need-part-put-slot-start-2 Inv-loop μ-loop
-part-put-slot-start-2 c = omega arith
-
-part-put-slot-end-2 : tie.Need-part-put-slot-end-2 Inv-loop μ-loop
-part-put-slot-end-2 c = omega arith
-
 put-slot-requires : tie.Need-put-slot-requires Inv-loop μ-loop
-put-slot-requires c κs = slot-room (c .before .before .before .before .loop .inv) (c .before .before .before .loop-test .taken)
+put-slot-requires c κs =
+    let nodes = c .before .before .before .before .before .before .before .before .before .before .args .nodes .now in
+    let are = known-bytes nodes (λ i. omega (arith, c .before .before .before .before .before .before .shared-slice-known3 .given i)) in
+    let node = node-lent nodes are (c .before .before .before .before .loop .i) (omega (arith, c .before .before .before .before .before .before .before .before .before .before .pre .0, c .before .before .before .loop-test .taken)) (c .before .before .get .ensures .0) in
+    slot-room (c .before .before .before .before .loop .inv) (c .before .before .before .loop-test .taken) node
 
 add-i : tie.Need-add-i Inv-loop μ-loop
 add-i c = omega arith
@@ -55,7 +51,11 @@ loop-less : tie.Need-loop-less Inv-loop μ-loop
 loop-less c = omega arith
 
 loop-again : tie.Need-loop-again Inv-loop μ-loop
-loop-again c = write-turn (c .before .before .before .before .before .before .before .loop .inv) (c .before .before .before .before .before .before .loop-test .taken) (c .before .before .put-slot .ensures)
+loop-again c =
+    let nodes = c .before .before .before .before .before .before .before .before .before .before .before .before .before .args .nodes .now in
+    let are = known-bytes nodes (λ i. omega (arith, c .before .before .before .before .before .before .before .before .before .shared-slice-known3 .given i)) in
+    let node = node-lent nodes are (c .before .before .before .before .before .before .before .loop .i) (omega (arith, c .before .before .before .before .before .before .before .before .before .before .before .before .before .pre .0, c .before .before .before .before .before .before .loop-test .taken)) (c .before .before .before .before .before .get .ensures .0) in
+    write-turn (c .before .before .before .before .before .before .before .loop .inv) (c .before .before .before .before .before .before .loop-test .taken) node (c .before .before .put-slot .ensures)
 
 same-length : tie.Need-same-length Inv-loop μ-loop
 same-length c = grown-length (c .before .loop .inv .grows)
@@ -70,16 +70,13 @@ put-slots-spec =
     Inv-loop
     μ-loop
     loop-holds
-    mul-node
-    add-node-end
     mul-dir
     add-dir-end
+    mul-get
+    get-requires
     sub-put-slot
     part-put-slot-start
     part-put-slot-end
-    sub-put-slot-2
-    part-put-slot-start-2
-    part-put-slot-end-2
     put-slot-requires
     add-i
     loop-less

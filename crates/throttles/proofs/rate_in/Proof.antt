@@ -34,12 +34,12 @@ default-rate-requires : tie.Need-default-rate-requires
 default-rate-requires c κs = search needs
 
 returns : tie.Need-returns
-returns c = own-value (c .before .before .before .before .before .before .before .before .args .s .now) (c .before .before .before .before .before .before .before .before .args .node) (c .before .before .before .before .before .before .before .before .args .name .now) _ (c .before .before .before .before .before .config-at .ensures .0) (c .before .before .before .start .given .1) (c .rate-of .ensures)
+returns c = own-value (c .before .before .before .before .before .before .before .before .args .s .now) (c .before .before .before .before .before .before .before .before .args .node .0) (c .before .before .before .before .before .before .before .before .args .name .now) _ (c .before .before .before .before .before .config-at .ensures .0) (c .before .before .before .start .given .1) (c .rate-of .ensures)
 
 returns-2 : tie.Need-returns-2
 returns-2 c =
     c .default-rate .ensures
-    ∙ sym (default-rate (c .before .before .before .before .before .before .args .node) (c .before .before .before .before .before .before .args .name .now) _ (sym (no-value (c .before .before .before .before .before .before .args .s .now) (c .before .before .before .config-at .ensures .0) (c .before .enum-told .given .1))))
+    ∙ sym (default-rate (c .before .before .before .before .before .before .args .node .0) (c .before .before .before .before .before .before .args .name .now) _ (sym (no-value (c .before .before .before .before .before .before .args .s .now) (c .before .before .before .config-at .ensures .0) (c .before .enum-told .given .1))))
 
 pub rate-in-spec : {M : Type 1} → statement M
 rate-in-spec =

@@ -3,39 +3,38 @@ use borrow.Author.Needs.{needs}
 use mathlib.Core.Path.{refl}
 use Prim.Native.Nat.{_-_}
 use native.Mathlib.Omega.{arith}
-use Rattle.assignments.proofs.Slots.{Walked, walk-start, walk-bound, walk-here, walk-on, walk-end}
+use borrow.Author.Tests.{eq-eqb, ne-eqb}
+use Rattle.model.specs.Number.{bytes}
+use Rattle.keys.proofs.Keys.{known-bytes}
+use Rattle.assignments.proofs.Slots.{node-same, Walked, walk-start, walk-bound, walk-here, walk-on, walk-end}
 use Rattle.assignments.proofs.directories.slot_of.Statement.{statement}
 use Rattle.assignments.proofs.directories.slot_of.Tie as tie
 
 abbrev Inv-loop : tie.InvT-loop
-Inv-loop nodes node count i₀ i = Walked nodes node count i
+Inv-loop nodes node count i₀ i = Walked nodes (bytes 8 (node .0)) count i
 
 abbrev μ-loop : tie.MeasureT-loop
 μ-loop nodes node count i₀ i = count - i
 
 loop-holds : tie.Need-loop-holds Inv-loop μ-loop
-loop-holds c = walk-start _ _ _ refl (c .before .before .pre)
+loop-holds c = walk-start _ _ _ refl (c .before .pre)
 
-mul-at : tie.Need-mul-at Inv-loop μ-loop
-mul-at c = omega (arith, walk-bound _ _ _ _ (c .before .loop .inv) (c .loop-test .taken))
+mul-get : tie.Need-mul-get Inv-loop μ-loop
+mul-get c = omega (arith, walk-bound _ _ _ _ (c .before .loop .inv) (c .loop-test .taken))
 
-add-end : tie.Need-add-end Inv-loop μ-loop
-add-end c = omega (arith, walk-bound _ _ _ _ (c .before .loop .inv) (c .loop-test .taken))
-
-sub-same : tie.Need-sub-same Inv-loop μ-loop
-sub-same c = omega arith
-
-part-same-start : tie.Need-part-same-start Inv-loop μ-loop
-part-same-start c = omega (arith, walk-bound _ _ _ _ (c .before .loop .inv) (c .loop-test .taken))
-
-part-same-end : tie.Need-part-same-end Inv-loop μ-loop
-part-same-end c = omega (arith, walk-bound _ _ _ _ (c .before .loop .inv) (c .loop-test .taken))
-
-same-requires : tie.Need-same-requires Inv-loop μ-loop
-same-requires c κs = search needs
+get-requires : tie.Need-get-requires Inv-loop μ-loop
+get-requires c κs = (omega arith, walk-bound _ _ _ _ (c .before .loop .inv) (c .loop-test .taken))
 
 returns : tie.Need-returns Inv-loop μ-loop
-returns c = walk-here _ _ _ _ (c .before .before .before .before .loop .inv) (c .before .before .before .loop-test .taken) (c .before .same .ensures) (c .if1 .taken)
+returns c =
+    let start = c .before .before .before .before .before .before in
+    let nodes = start .args .nodes .now in
+    let at = c .before .before .before .before .loop in
+    let more = c .before .before .before .loop-test .taken in
+    let are = known-bytes nodes (λ i. omega (arith, c .before .before .before .before .before .shared-slice-known .given i)) in
+    let fits = walk-bound nodes _ _ _ (at .inv) more in
+    let same = node-same nodes are _ fits (start .args .node .0) (omega (arith, c .before .struct-known .given)) (c .before .before .get .ensures .0) in
+    walk-here nodes _ _ _ (at .inv) more same (eq-eqb _ _ (c .if1 .taken))
 
 add-i : tie.Need-add-i Inv-loop μ-loop
 add-i c = omega arith
@@ -44,7 +43,15 @@ loop-less : tie.Need-loop-less Inv-loop μ-loop
 loop-less c = omega arith
 
 loop-again : tie.Need-loop-again Inv-loop μ-loop
-loop-again c = walk-on _ _ _ _ (c .before .before .before .before .loop .inv) (c .before .before .before .loop-test .taken) (c .before .same .ensures) (c .if1 .left)
+loop-again c =
+    let start = c .before .before .before .before .before .before in
+    let nodes = start .args .nodes .now in
+    let at = c .before .before .before .before .loop in
+    let more = c .before .before .before .loop-test .taken in
+    let are = known-bytes nodes (λ i. omega (arith, c .before .before .before .before .before .shared-slice-known .given i)) in
+    let fits = walk-bound nodes _ _ _ (at .inv) more in
+    let same = node-same nodes are _ fits (start .args .node .0) (omega (arith, c .before .struct-known .given)) (c .before .before .get .ensures .0) in
+    walk-on nodes _ _ _ (at .inv) more same (ne-eqb _ _ (c .if1 .left))
 
 returns-2 : tie.Need-returns-2 Inv-loop μ-loop
 returns-2 c = walk-end _ _ _ _ (c .before .loop .inv) (c .loop-test .left)
@@ -56,12 +63,8 @@ slot-of-spec =
     Inv-loop
     μ-loop
     loop-holds
-    mul-at
-    add-end
-    sub-same
-    part-same-start
-    part-same-end
-    same-requires
+    mul-get
+    get-requires
     returns
     add-i
     loop-less

@@ -2,17 +2,18 @@
 use borrow.Author.Needs.{needs}
 use native.Mathlib.Omega.{arith}
 use Rattle.model.specs.Number.{AreBytes}
+use Rattle.laws.specs.Numbers.{length-bytes}
 use Rattle.keys.proofs.Keys.{known-bytes}
 use Rattle.judge.proofs.Queries.{broker-query}
 use Rattle.judge.proofs.Epochs.{no-broker, broker-headed, broker-epoch}
 use Rattle.judge.proofs.brokers.at_epoch.Statement.{statement}
 use Rattle.judge.proofs.brokers.at_epoch.Tie as tie
 
-find-named-requires : tie.Need-find-named-requires
-find-named-requires c κs = let a = c .before .before in (a .pre .0, a .pre .1, broker-query _ (a .pre .2))
+find-node-requires : tie.Need-find-node-requires
+find-node-requires c κs = let start = c .before .before in (start .pre .0, broker-query _ (length-bytes 8 (start .args .node .0)))
 
 returns : tie.Need-returns
-returns c = no-broker _ (c .before .before .before .before .args .rec .now) (c .before .find-named .ensures) (c .if1 .taken)
+returns c = no-broker _ (c .before .before .before .before .args .rec .now) _ (c .before .find-node .ensures) (c .if1 .taken)
 
 -- the slice is of bytes
 bytes-in : (c : tie.Else1) → AreBytes (c .before .before .before .before .args .s .now)
@@ -31,19 +32,19 @@ same-value-requires : tie.Need-same-value-requires
 same-value-requires c κs =
     let f = c .before in
     let a = c .before .before .before .before .before in
-    (broker-headed _ (a .args .rec .now) (f .before .find-named .ensures) (bytes-in f) (a .pre .0) (f .if1 .left), a .pre .1)
+    (broker-headed _ (a .args .rec .now) _ (f .before .find-node .ensures) (bytes-in f) (a .pre .0) (f .if1 .left), a .pre .1)
 
 returns-2 : tie.Need-returns-2
 returns-2 c =
     let f = c .before .before in
     let a = c .before .before .before .before .before .before in
-    broker-epoch _ (a .args .rec .now) (f .before .find-named .ensures) (bytes-in f) (a .pre .0) (f .if1 .left) (c .same-value .ensures)
+    broker-epoch _ (a .args .rec .now) _ (f .before .find-node .ensures) (bytes-in f) (a .pre .0) (f .if1 .left) (c .same-value .ensures)
 
 pub at-epoch-spec : {M : Type 1} → statement M
 at-epoch-spec =
     tie.close
     (tie.spec
-    find-named-requires
+    find-node-requires
     returns
     sub-same-value
     part-same-value-start

@@ -1,6 +1,7 @@
 -- `brokers::producer_fault` meets its contract: the next id first, then the broker.
 use borrow.Author.Needs.{needs}
-use Rattle.judge.proofs.Epochs.{not-above, above}
+use mathlib.Core.Path.{_∙_}
+use Rattle.judge.proofs.Epochs.{of-node, not-above, above}
 use Rattle.judge.proofs.brokers.producer_fault.Statement.{statement}
 use Rattle.judge.proofs.brokers.producer_fault.Tie as tie
 
@@ -15,6 +16,9 @@ returns c =
     let a = c .before .before .before .before .before .args in
     not-above (a .s .now) (a .rec .now) (c .before .before .place-in .ensures) (c .before .stored-next .ensures) (c .if1 .taken)
 
+node-at-requires : tie.Need-node-at-requires
+node-at-requires c κs = search needs
+
 at-epoch-requires : tie.Need-at-epoch-requires
 at-epoch-requires c κs = search needs
 
@@ -23,9 +27,10 @@ unless-requires c κs = search needs
 
 returns-2 : tie.Need-returns-2
 returns-2 c =
-    let f = c .before .before .before in
-    let a = c .before .before .before .before .before .before .before .args in
-    above (a .s .now) (a .rec .now) (f .before .place-in .ensures) (f .stored-next .ensures) (c .before .before .if1 .left) (c .unless .ensures) (c .before .at-epoch .ensures)
+    let f = c .before .before .before .before in
+    let a = c .before .before .before .before .before .before .before .before .args in
+    above (a .s .now) (a .rec .now) (f .before .place-in .ensures) (f .stored-next .ensures) (c .before .before .before .if1 .left) (c .unless .ensures)
+    (c .before .at-epoch .ensures ∙ of-node (a .s .now) (a .rec .now) (c .before .before .node-at .ensures))
 
 pub producer-fault-spec : {M : Type 1} → statement M
 producer-fault-spec =
@@ -34,6 +39,7 @@ producer-fault-spec =
     place-in-requires
     stored-next-requires
     returns
+    node-at-requires
     at-epoch-requires
     unless-requires
     returns-2)

@@ -1,47 +1,34 @@
--- `brokers::unknown_controller` meets its contract: the node is lent, and sought among the controllers.
+-- `brokers::unknown_controller` meets its contract: the node is sought among the controllers.
 use borrow.Author.Needs.{needs}
-use mathlib.Core.Path.{refl}
-use Rattle.judge.proofs.Fields.{lent-value}
-use Rattle.judge.proofs.Queries.{controller-query, controller-key, lent-query, unless-there}
+use mathlib.Core.Path.{ap, _∙_}
+use native.Mathlib.Omega.{arith}
+use Rattle.model.specs.Choice.{unless, isSome}
+use Rattle.model.specs.Number.{bytes}
+use Rattle.model.specs.Map.{get}
+use Rattle.model.specs.Contents.{key}
+use Rattle.laws.specs.Numbers.{length-bytes}
+use Rattle.keys.proofs.Keys.{known-bytes}
+use Rattle.judge.specs.Judge.{entriesIn}
+use Rattle.judge.proofs.Queries.{controller-query, controller-key}
+use Rattle.judge.proofs.Held.{is-held}
 use Rattle.judge.proofs.brokers.unknown_controller.Statement.{statement}
 use Rattle.judge.proofs.brokers.unknown_controller.Tie as tie
 
-value-at-requires : tie.Need-value-at-requires
-value-at-requires c κs = search needs
-
-sub-is-stored : tie.Need-sub-is-stored
-sub-is-stored c = search needs
-
-part-is-stored-start : tie.Need-part-is-stored-start
-part-is-stored-start c = search needs
-
-part-is-stored-end : tie.Need-part-is-stored-end
-part-is-stored-end c = search needs
-
-slice-aggregate-is-stored : tie.Need-slice-aggregate-is-stored
-slice-aggregate-is-stored c = search needs
-
-is-stored-requires : tie.Need-is-stored-requires
-is-stored-requires c κs =
-    let a = c .before .before .before .before .before in
-    (a .pre .0, lent-query 17 (lent-value _ _ _ _ (c .before .before .value-at .ensures)) refl (controller-query _ (a .pre .2)))
+find-node-requires : tie.Need-find-node-requires
+find-node-requires c κs = let start = c .before in (start .pre, controller-query _ (length-bytes 8 (start .args .node .0)))
 
 unless-requires : tie.Need-unless-requires
 unless-requires c κs = search needs
 
 returns : tie.Need-returns
 returns c =
-    unless-there 17 (lent-value _ _ _ _ (c .before .before .before .before .value-at .ensures)) refl _ (controller-key _) 10 (c .unless .ensures) (c .before .is-stored .ensures)
+    let start = c .before .before .before .before in
+    let s = start .args .s .now in
+    let node = bytes 8 (start .args .node .0) in
+    let are = known-bytes s (λ i. omega (arith, c .before .before .before .shared-slice-known .given i)) in
+    c .unless .ensures
+    ∙ ap (λ b. unless b 10) (is-held s (c .before .before .find-node .ensures) are (start .pre))
+    ∙ ap (λ k. unless (isSome (get key k (entriesIn s))) 10) (controller-key node)
 
 pub unknown-controller-spec : {M : Type 1} → statement M
-unknown-controller-spec =
-    tie.close
-    (tie.spec
-    value-at-requires
-    sub-is-stored
-    part-is-stored-start
-    part-is-stored-end
-    slice-aggregate-is-stored
-    is-stored-requires
-    unless-requires
-    returns)
+unknown-controller-spec = tie.close (tie.spec find-node-requires unless-requires returns)

@@ -1,25 +1,25 @@
 -- Whether an advance leaves i64.
 use mathlib.Core.Path.{_≡_, refl, sym, _∙_}
-use mathlib.Core.Bool.{Bool, false}
+use mathlib.Core.Bool.{false}
 use mathlib.Core.List.{List}
-use borrow.Author.Tests.{ne-eqb}
+use lib.Dec.{eqb}
 use Rattle.model.specs.Number.{Bytes}
-use Rattle.model.specs.Run.{value}
 use Rattle.model.specs.Kind.{kindNumber}
 use Rattle.model.specs.Contents.{Entry}
-use Rattle.model.specs.Move.{overflows, sumLeaves, offsetSum, storedOffset}
+use Rattle.model.specs.Move.{overflows}
 use Rattle.model.specs.declared.Kind.the-variants.{PartitionOffsetAdvance}
 use Rattle.laws.specs.Choice.{impossible}
 use Rattle.keys.specs.Keys.{kindIn}
 use Rattle.entries.specs.Entries.{IsRecord, recordIn}
 use Rattle.judge.specs.Judge.{IsLogged, loggedIn}
 use Rattle.judge.proofs.Logged.{kind-in}
+use Rattle.plans.specs.Plans.{leavesBy}
 use Rattle.plans.proofs.ByKind.{logged-is, record-logged, record-kind}
 
 module _ (rec : Bytes) (i : IsLogged rec) (l : List Entry) where
-  pub no-advance : (kindIn rec ≡ 15 → ⊥) → false ≡ overflows (loggedIn rec) l
+  pub no-advance : eqb (kindIn rec) 15 ≡ false → overflows (loggedIn rec) l ≡ false
   unfolding overflows kindNumber
-  no-advance ne = rw (ne-eqb (kindNumber (loggedIn rec .kind)) 15 (λ e. ne (kind-in rec i ∙ e))) refl
+  no-advance ne = rw (sym (kind-in rec i), ne) refl
 
   module _ (is : kindIn rec ≡ 15) where
     pub advance-is : IsRecord rec
@@ -30,9 +30,8 @@ module _ (rec : Bytes) (i : IsLogged rec) (l : List Entry) where
     unfolding kindNumber
     advance-kind = record-kind rec i PartitionOffsetAdvance is (λ e. impossible cc)
 
-    pub advance-leaves : {b : Bool} → b ≡ sumLeaves (offsetSum (storedOffset (recordIn rec .run) l) (value 3 (recordIn rec .run)))
-        → b ≡ overflows (loggedIn rec) l
+    pub advance-leaves : leavesBy (recordIn rec .run) l ≡ overflows (loggedIn rec) l
     unfolding overflows kindNumber
-    advance-leaves e =
+    advance-leaves =
         let same : recordIn rec ≡ loggedIn rec = record-logged rec i PartitionOffsetAdvance is (λ q. impossible cc) in
-        e ∙ rw (same, sym (kind-in rec i) ∙ is) refl
+        rw (same, sym (kind-in rec i) ∙ is) refl
