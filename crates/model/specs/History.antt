@@ -64,11 +64,12 @@ judged input image = verdict (validateOf image input) (cond (admitted input imag
 abbrev pub imageAfter : Bytes → Bytes → Bytes
 imageAfter input image = cond (admitted input image) (applyOf image input .buffer) image
 
--- the bytes that an operation said it wrote
+-- the value that comes with a number, 0 where none does
 abbrev pub firstValue : List ℕ → ℕ
 firstValue [] = 0
 firstValue (n ∷ ns) = n
 
+-- the bytes that an operation said it wrote
 abbrev pub written : Ended → Bytes
 written e = take (firstValue (e .reply .values)) (e .buffer)
 
@@ -210,6 +211,7 @@ unfoldable pub meets : Premise → List Step → Bytes → Bool
 meets p [] image = true
 meets p (s ∷ steps) image = meetsAt p s image && meets p steps (after s image)
 
+-- all four
 unfoldable pub holds : List Step → Bytes → Bool
 holds steps image = meets ids steps image && meets factors steps image && meets epochs steps image && meets room steps image
 
