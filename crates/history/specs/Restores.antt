@@ -1,7 +1,5 @@
 -- Whatever Restore is given, and whether or not it refuses a record of it, it leaves an image: each record leaves contents that fit.
-use mathlib.Core.Path.{_≡_, refl}
 use mathlib.Core.List.{[], _∷_}
-use mathlib.Core.Bool.{true, cond}
 use Prim.Native.Nat.{ℕ, zero, suc, _+_, _-_}
 use lib.ListN.{length}
 use Rattle.model.specs.Number.{Bytes, AreBytes}
