@@ -2,10 +2,9 @@
 use mathlib.Core.Path.{_≡_, refl}
 use Prim.Native.Nat.{ℕ, _+_, _-_, _^_}
 use mathlib.Core.List.{List, [], _∷_, _++_}
-use lib.ListN.{length, take, replicate}
+use lib.ListN.{length, replicate}
 use Rattle.model.specs.Number.{Bytes, number, bytes}
 use Rattle.model.specs.Run as Run
-use Rattle.model.specs.Run.{done, item, value}
 use Rattle.model.specs.Choice as Choice
 use Rattle.model.specs.Text as Text
 use Rattle.model.specs.Order as Order
@@ -23,70 +22,11 @@ use Rattle.model.specs.Validate as Validate
 use Rattle.model.specs.Apply as Apply
 use Rattle.model.specs.Snapshot as Snapshot
 use Rattle.model.specs.Lookup as Lookup
-use Rattle.model.specs.declared.Kind.the-variants.{Topic, Partition, ProducerIds, PartitionDirAssignment, PartitionOffsetAdvance, TopicFreeze}
+use Rattle.model.specs.History.{written}
+use Rattle.cases.specs.Inputs.{p, ro, room, room-7, r, underscores, underscores-room, level, nextId, frozen, topicNamed, partition, advance, directory}
+use Rattle.cases.specs.Inputs.{opened, output, fieldOf}
 
--- 1. Inputs
-
--- a record's bytes
-abbrev encode : Record.Rec → Bytes
-encode r = Record.recordBytes r
-
--- "p", "ro", "room", "room-7", "r", "__", "__room"
-abbrev p : Bytes
-p = 0x70 ∷ []
-
-abbrev ro : Bytes
-ro = 0x72 ∷ 0x6f ∷ []
-
-abbrev room : Bytes
-room = 0x72 ∷ 0x6f ∷ 0x6f ∷ 0x6d ∷ []
-
-abbrev room-7 : Bytes
-room-7 = room ++ (0x2d ∷ 0x37 ∷ [])
-
-abbrev r : Bytes
-r = 0x72 ∷ []
-
-abbrev underscores : Bytes
-underscores = 0x5f ∷ 0x5f ∷ []
-
-abbrev underscores-room : Bytes
-underscores-room = underscores ++ room
-
--- FeatureLevel "a" at a level, in the bytes that 01 gives
-abbrev level : ℕ → Bytes
-level n = 0x0b ∷ 0 ∷ 9 ∷ 1 ∷ 0 ∷ 1 ∷ 0x61 ∷ 2 ∷ 0 ∷ 2 ∷ 0 ∷ n ∷ []
-
-abbrev nextId : ℕ → Bytes
-nextId n = encode (Record.rec ProducerIds (item 1 (bytes 8 1) (item 2 (bytes 8 0) (item 3 (bytes 8 n) done))))
-
--- a frozen prefix
-abbrev frozen : Bytes → Bytes
-frozen scope =
-    encode (Record.rec TopicFreeze
-    (item 1 scope (item 2 (1 ∷ []) (item 3 (1 ∷ []) (item 4 [] (item 5 [] (item 6 (bytes 8 0) (item 7 (bytes 16 0) (item 8 [] (item 9 [] done))))))))))
-
-abbrev topicNamed : Bytes → ℕ → Bytes
-topicNamed name count = encode (Record.rec Topic (item 1 name (item 2 (bytes 16 5) (item 3 (bytes 4 count) (item 4 (bytes 2 1) done)))))
-
-abbrev partition : Bytes → ℕ → Bytes → Bytes → Bytes
-partition name n replicas dirs =
-    encode (Record.rec Partition
-    (item 1 name (item 2 (bytes 4 n) (item 3 (bytes 8 1) (item 4 replicas (item 5 replicas (item 6 (bytes 4 0) (item 7 [] (item 8 [] (item 9 dirs
-    (item 10 (bytes 4 0) done)))))))))))
-
-abbrev advance : ℕ → Bytes
-advance n = encode (Record.rec PartitionOffsetAdvance (item 1 p (item 2 (bytes 4 0) (item 3 (bytes 8 n) done))))
-
-abbrev directory : Bytes → ℕ → ℕ → Bytes → Bytes
-directory name n replica id =
-    encode (Record.rec PartitionDirAssignment (item 1 name (item 2 (bytes 4 n) (item 3 (bytes 8 replica) (item 4 id done)))))
-
--- 2. Operations in a row
-
--- a fresh image in a buffer that held something else
-abbrev opened : ℕ → Bytes
-opened capacity = Image.openOf (replicate capacity 7) .buffer
+-- 1. Operations in a row
 
 abbrev applied : Bytes → Bytes → Bytes
 applied image input = Apply.applyOf image input .buffer
@@ -94,22 +34,12 @@ applied image input = Apply.applyOf image input .buffer
 abbrev applyNumber : Bytes → Bytes → ℕ
 applyNumber image input = Apply.applyOf image input .reply .number
 
-abbrev output : Bytes
-output = replicate 300 0
+abbrev shot : Bytes → Bytes
+shot image = written (Snapshot.snapshotOf image output)
 
 -- the snapshot of an image, restored at its capacity
 abbrev restarted : Bytes → Bytes
-restarted image =
-    let s = Snapshot.snapshotOf image (replicate 300 0) in
-    Snapshot.restoreOf (take (number (bytes 2 (first (s .reply .values)))) (s .buffer)) (replicate (length image) 9) .buffer
-  where
-    first : List ℕ → ℕ
-    first [] = 0
-    first (n ∷ ns) = n
-
--- a field of the record that a lookup wrote; nothing where it wrote none
-abbrev fieldOf : ℕ → Reply.Ended → Bytes
-fieldOf tag e = Record.onGot (Record.read Shape.logged (e .buffer)) (λ n. []) (λ rec used. value tag (rec .run))
+restarted image = Snapshot.restoreOf (shot image) (replicate (length image) 9) .buffer
 
 abbrev frozenScope : Bytes → Bytes → Bytes
 frozenScope image name = fieldOf 1 (Lookup.freezeOf image name output)
@@ -117,10 +47,13 @@ frozenScope image name = fieldOf 1 (Lookup.freezeOf image name output)
 abbrev topicCount : Bytes → ℕ
 topicCount image = number (fieldOf 3 (Lookup.topicByName image p output))
 
--- 3. Images
+-- 2. Images
 
 abbrev prefixes : Bytes
 prefixes = applied (applied (opened 400) (frozen ro)) (frozen room)
+
+abbrev internal : Bytes
+internal = applied (opened 400) (frozen underscores)
 
 abbrev orphaned : Bytes
 orphaned = applied (applied (opened 400) (partition p 1 (bytes 8 1) [])) (topicNamed p 9)
@@ -138,7 +71,7 @@ E = bytes 16 0xe
 abbrev directed : Bytes
 directed = applied (applied (opened 400) (partition p 0 (bytes 8 1 ++ bytes 8 2 ++ bytes 8 3) D)) (directory p 0 3 E)
 
--- 4. The table
+-- 3. The table
 
 -- what the operations answer, and what 01 says
 pub record Case : Type 0 where
@@ -164,8 +97,9 @@ cases =
     -- M5 prefixes "ro", "room": "room-7" gives "room", "r" none
     case (frozenScope prefixes room-7) room ∷
     case (Lookup.freezeOf prefixes r output .reply .values) (0 ∷ []) ∷
-    -- M6 scope "__": "__room" none
-    case (Lookup.freezeOf (applied (opened 400) (frozen underscores)) underscores-room output .reply .values) (0 ∷ []) ∷
+    -- M6 scope "__": "__room" none, although Apply took the freeze: the snapshot is its record
+    case (applyNumber (opened 400) (frozen underscores) ∷ shot internal) (0 ∷ frozen underscores) ∷
+    case (Lookup.freezeOf internal underscores-room output .reply .values) (0 ∷ []) ∷
     -- M7 partition 1 of "p", then topic "p" with count 9: count 0, restored 1
     case (topicCount orphaned ∷ topicCount (restarted orphaned) ∷ []) (0 ∷ 1 ∷ []) ∷
     -- M8 that FeatureLevel on fresh at 139: 18; at 140: accepted
@@ -199,4 +133,4 @@ unfolding cases Text.wellFormed Text.following Text.textAfter Run.parse Run.byte
     Snapshot.restored Lookup.topicByName Lookup.namedBy Lookup.topicById Lookup.partitionOf Lookup.brokerOf Lookup.epochOf Lookup.isShort
     Lookup.shortCount Lookup.shortOf Lookup.beginsWith Lookup.longestBy Lookup.freezeBy Lookup.freeze Lookup.freezeOf Lookup.throttleName
     Lookup.digits Lookup.magnitude Lookup.readI64 Lookup.throttle Lookup.throttleOf
-marked-cases = (refl, (refl, (refl, (refl, (refl, (refl, (refl, (refl, (refl, (refl, (refl, tt)))))))))))
+marked-cases = (refl, (refl, (refl, (refl, (refl, (refl, (refl, (refl, (refl, (refl, (refl, (refl, tt))))))))))))

@@ -1,4 +1,5 @@
-// Open, the exact test, Validate, Apply and the lookups for programs in other languages.
+// Open, the exact test, Validate, Apply and the lookups for programs in other languages. `unpacked` (`specs/Unpacked.antt`) is what their
+// packed answers give back.
 use lookup::Rated;
 use lookup::Value;
 use model::NodeId;

@@ -1,4 +1,5 @@
-// Snapshot, Restore and the records of a downgrade for programs in other languages.
+// Snapshot, Restore and the records of a downgrade for programs in other languages. `unpacked` (`specs/Unpacked.antt`) is what their packed
+// answers give back.
 use packing::alone;
 use packing::pack;
 use packing::put_first;

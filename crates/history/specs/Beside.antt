@@ -17,9 +17,9 @@ use Rattle.model.specs.Validate.{judge}
 use Rattle.model.specs.Apply.{Applied, stays, becomes, applyOf}
 use Rattle.model.specs.Snapshot.{restored}
 use Rattle.model.specs.History.{Step, give, askTopic, askTopicId, askPartition, askBroker, askEpoch, askShort, askFreeze, askThrottle, askDowngrade, snap, cut}
-use Rattle.model.specs.History.{said, wrote, admitted, answer, after, isCut, premises, epochMild, roomLasts, stepHolds, StepGiven}
+use Rattle.model.specs.History.{said, wrote, admitted, answer, after, isCut, premises, epochMild, roomLasts, ofGiven, epochs, room, meetsAt, StepGiven}
 use Rattle.model.specs.declared.Kind.the-variants.{FeaturesEpoch}
-use Rattle.laws.specs.Choice.{impossible, true-false, and-left, and-right}
+use Rattle.laws.specs.Choice.{impossible, true-false}
 use Rattle.laws_apply.specs.MovedFits.{fits-holds, contentsAfter}
 use Rattle.laws_apply.specs.Apply.{numberOf}
 use Rattle.history.specs.Like.{Like}
@@ -52,6 +52,10 @@ room-lasts capacity image h input lasts passes e =
     rw (validate-contents image input (h .is), passes, apply-laid image input (h .is), h .size, e) in
     true-false full (not-true (admitted input image && eqb (applyOf image input .reply .number) 18) lasts)
 
+-- the two premises on what a step gives
+abbrev pub StepHolds : Step → Bytes → Type 0
+StepHolds s image = (meetsAt epochs s image ≡ true) × (meetsAt room s image ≡ true)
+
 -- 2. A step that both histories have
 
 same-number : {P : Contents → Contents → Type 0} {a b : Applied} → Matched P a b → numberOf b ≡ numberOf a
@@ -67,15 +71,15 @@ module _ (capacity : ℕ) (u c : Bytes) (iu : Image capacity u) (ic : Image capa
   same-validated (got r used) = ap (judge r) (k .real)
 
   module _ (good : Good (contentsOf u)) (premise : Premises (contentsOf u .real)) where
-    matched : (s : Step) → isCut s ≡ false → StepGiven capacity s → stepHolds s u ≡ true
+    matched : (s : Step) → isCut s ≡ false → StepGiven capacity s → StepHolds s u
         → Matched Next (effect capacity s (contentsOf u)) (effect capacity s (contentsOf c))
-    unfolding isCut stepHolds effect
+    unfolding isCut meetsAt ofGiven effect
     matched (cut own other) n given h = impossible cc
     matched (give input) n given h =
         let held = fits-holds capacity (contentsOf u) (contents-fit capacity u iu) in
-        let mild = mild-epoch input (and-left (epochMild input) (roomLasts input u) h) in
-        let room = room-lasts capacity u iu input (and-right (epochMild input) (roomLasts input u) h) in
-        offered-matched capacity (contentsOf u) (contentsOf c) k held good premise (read logged input) (is-read input given) mild room
+        let mild = mild-epoch input (h .0) in
+        let lasts = room-lasts capacity u iu input (h .1) in
+        offered-matched capacity (contentsOf u) (contentsOf c) k held good premise (read logged input) (is-read input given) mild lasts
     matched (askTopic name out) n given h = both-stay 0
     matched (askTopicId id out) n given h = both-stay 0
     matched (askPartition name m out) n given h = both-stay 0
@@ -87,7 +91,7 @@ module _ (capacity : ℕ) (u c : Bytes) (iu : Image capacity u) (ic : Image capa
     matched (askDowngrade level out) n given h = both-stay 0
     matched (snap out) n given h = both-stay 0
 
-    pub same-answer : (s : Step) → isCut s ≡ false → StepGiven capacity s → stepHolds s u ≡ true → answer s c ≡ answer s u
+    pub same-answer : (s : Step) → isCut s ≡ false → StepGiven capacity s → StepHolds s u → answer s c ≡ answer s u
     unfolding isCut answer effect
     same-answer (cut own other) n given h = impossible cc
     same-answer (give input) n given h =
@@ -117,7 +121,7 @@ matched-close u c good k (both-stay n) h = (good, k)
 matched-close u c good k (both-become {u = v} next) h = (next .1 (premises-hold v h), next .0)
 
 module _ (capacity : ℕ) (u c : Bytes) (iu : Image capacity u) (ic : Image capacity c) (close : Close (contentsOf u) (contentsOf c)) where
-  pub close-step : (s : Step) → isCut s ≡ false → StepGiven capacity s → premises (contentsOf u) ≡ true → stepHolds s u ≡ true
+  pub close-step : (s : Step) → isCut s ≡ false → StepGiven capacity s → premises (contentsOf u) ≡ true → StepHolds s u
       → Close (contentsOf (after s u)) (contentsOf (after s c))
   close-step s n given premise h =
       let now = close premise in

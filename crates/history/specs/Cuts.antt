@@ -4,20 +4,22 @@ use mathlib.Core.List.{List, [], _∷_, _++_}
 use mathlib.Core.Bool.{true, false, cond, _&&_}
 use Prim.Native.Nat.{ℕ}
 use lib.ListN.{length}
+use Rattle.model.specs.Choice.{every}
 use Rattle.model.specs.Number.{Bytes}
 use Rattle.model.specs.Image.{isCapacity, imageOf, contentsOf, openOf}
 use Rattle.model.specs.Snapshot.{restored}
 use Rattle.model.specs.History.{Step, give, askTopic, askTopicId, askPartition, askBroker, askEpoch, askShort, askFreeze, askThrottle, askDowngrade, snap, cut}
-use Rattle.model.specs.History.{cutImage, answer, after, run, reached, isCut, uncut, premises, stepHolds, holds, StepGiven, Given}
-use Rattle.model.specs.History.{CutsUnseen, CutBecomesRestored, CutAnywhere}
-use Rattle.laws.specs.Choice.{and-left, and-right}
+use Rattle.model.specs.History.{cutImage, answer, after, run, reached, isCut, uncut, idsApart, factorHolds, premises, StepGiven, Given}
+use Rattle.model.specs.History.{Premise, ids, factors, epochs, room, meetsAt, meets, holds}
+use Rattle.model.specs.History.{CutsUnseen, CutBecomesRestored, CutAnywhere, ReachedIsImage}
+use Rattle.laws.specs.Choice.{and-left, and-right, and-both}
 use Rattle.laws_image.specs.Open.{open-image}
 use Rattle.laws_restore.specs.Cut
 use Rattle.history.specs.Like.{like-self}
 use Rattle.history.specs.Good.{premises-hold, Good, good-fresh}
 use Rattle.history.specs.Answers.{Alike}
 use Rattle.history.specs.Bytes.{Image, opened, after-image, reached-image}
-use Rattle.history.specs.Beside.{alike, same-answer, Close, close-step, close-cut}
+use Rattle.history.specs.Beside.{StepHolds, alike, same-answer, Close, close-step, close-cut}
 
 -- 1. What is said of a history with cuts
 
@@ -66,34 +68,57 @@ step-unseen : (s : Step) (steps : List Step) (u c : Bytes) → isCut s ≡ false
 unfolding run
 step-unseen s steps u c e p a t = record { answers = rw (uncut-step s steps e, p, t .answers); images = rw e (a, t .images) }
 
--- what the premises say of the first step and of the rest
+-- what the premises say of a history, of its first step, and of the rest
+abbrev pub AllMeet : List Step → Bytes → Type 0
+AllMeet steps u = (p : Premise) → meets p steps u ≡ true
+
+all-meet : (steps : List Step) (u : Bytes) → holds steps u ≡ true → AllMeet steps u
+unfolding holds
+all-meet steps u h =
+    let i = meets ids steps u in
+    let f = meets factors steps u in
+    let e = meets epochs steps u in
+    let r = meets room steps u in
+    let three = and-left (i && f && e) r h in
+    let two = and-left (i && f) e three in
+    λ p. go p (and-left i f two) (and-right i f two) (and-right (i && f) e three) (and-right (i && f && e) r h)
+  where
+    go : (p : Premise) → meets ids steps u ≡ true → meets factors steps u ≡ true → meets epochs steps u ≡ true → meets room steps u ≡ true
+        → meets p steps u ≡ true
+    go ids i f e r = i
+    go factors i f e r = f
+    go epochs i f e r = e
+    go room i f e r = r
+
 record Held (s : Step) (steps : List Step) (u : Bytes) : Type 0 where
   premise : premises (contentsOf u) ≡ true
-  step : stepHolds s u ≡ true
-  rest : holds steps (after s u) ≡ true
+  step : StepHolds s u
+  rest : AllMeet steps (after s u)
 
-held : (s : Step) (steps : List Step) (u : Bytes) → holds (s ∷ steps) u ≡ true → Held s steps u
-unfolding holds
+held : (s : Step) (steps : List Step) (u : Bytes) → AllMeet (s ∷ steps) u → Held s steps u
+unfolding meets premises meetsAt
 held s steps u h =
-    let p = premises (contentsOf u) in
-    let first = and-left (p && stepHolds s u) (holds steps (after s u)) h in
+    let l = contentsOf u .real in
     record {
-      premise = and-left p (stepHolds s u) first;
-      step = and-right p (stepHolds s u) first;
-      rest = and-right (p && stepHolds s u) (holds steps (after s u)) h;
+      premise = and-both (idsApart l) (every (factorHolds l) l) (first ids) (first factors);
+      step = (first epochs, first room);
+      rest = λ p. and-right (meetsAt p s u) (meets p steps (after s u)) (h p);
     }
+  where
+    first : (p : Premise) → meetsAt p s u ≡ true
+    first p = and-left (meetsAt p s u) (meets p steps (after s u)) (h p)
 
 -- 3. The whole history, from any two images
 
 module _ (capacity : ℕ) where
   pub unseen : (steps : List Step) (u c : Bytes) → Image capacity u → Image capacity c → Given capacity steps
-      → Close (contentsOf u) (contentsOf c) → holds (uncut steps) u ≡ true → Unseen steps u c
+      → Close (contentsOf u) (contentsOf c) → AllMeet (uncut steps) u → Unseen steps u c
   unfolding run uncut isCut
   unseen [] u c iu ic given close h = record { answers = refl; images = λ premise. alike capacity u c iu ic (close premise .1) }
   unseen (s ∷ steps) u c iu ic given close h = go (cut-or-not s) (given .0) h (λ v d iv id. unseen steps v d iv id (given .1))
     where
-      go : {t : Step} → CutOrNot t → StepGiven capacity t → holds (uncut (t ∷ steps)) u ≡ true
-          → ((v d : Bytes) → Image capacity v → Image capacity d → Close (contentsOf v) (contentsOf d) → holds (uncut steps) v ≡ true
+      go : {t : Step} → CutOrNot t → StepGiven capacity t → AllMeet (uncut (t ∷ steps)) u
+          → ((v d : Bytes) → Image capacity v → Image capacity d → Close (contentsOf v) (contentsOf d) → AllMeet (uncut steps) v
           → Unseen steps v d)
           → Unseen (t ∷ steps) u c
       go (is-cut own other) k q later =
@@ -117,7 +142,7 @@ module _ (buffer : Bytes) (fits : isCapacity (length buffer) ≡ true) (steps : 
   unseen-from-fresh h =
       let o = opened buffer fits in
       let good : Good (contentsOf start) = rw (open-image buffer fits .1) good-fresh in
-      unseen (length buffer) steps start start o o given (λ premise. (good, like-self (contentsOf start))) h
+      unseen (length buffer) steps start start o o given (λ premise. (good, like-self (contentsOf start))) (all-meet (uncut steps) start h)
 
   pub reached-is-an-image : Image (length buffer) (reached steps start)
   reached-is-an-image = reached-image (length buffer) steps start (opened buffer fits) given
@@ -145,5 +170,11 @@ cut-anywhere buffer fits steps given own other e whole =
     let image = reached steps (openOf buffer .buffer) in
     let here = reached-is-an-image buffer fits steps given in
     let made = cut-becomes-restored image own other (here .areBytes) (here .is) (e ∙ sym (here .size)) in
-    reached-append steps (cut own other ∷ []) (openOf buffer .buffer)
-    ∙ rw whole (ap (λ x. x .buffer) (rw whole at made) ∙ ap (λ n. imageOf n (restored (contentsOf image))) (here .size))
+    let back = rw whole at made in (
+      ap (λ x. x .reply) back,
+      reached-append steps (cut own other ∷ []) (openOf buffer .buffer)
+          ∙ rw whole (ap (λ x. x .buffer) back ∙ ap (λ n. imageOf n (restored (contentsOf image))) (here .size)),
+    )
+
+pub reached-is-image : ReachedIsImage
+reached-is-image buffer fits steps given = reached-is-an-image buffer fits steps given .is

@@ -8,7 +8,9 @@
 --   a record step on contents ............................. Offered.offered, Offered.offered-matched
 --   images along a history ................................ Bytes.after-contents, Bytes.reached-image
 --   one step of both histories ............................ Beside.same-answer, Beside.close-step, Beside.close-cut
---   the theorems .......................................... Cuts.cuts-unseen, cuts-alike, cut-anywhere, cut-becomes-restored
+--   whatever Restore is given, it leaves an image ......... Restores.restore-leaves-image
+--   the theorems .......................................... Cuts.cuts-unseen, cuts-alike, cut-anywhere, cut-becomes-restored,
+--                                                           Cuts.reached-is-image
 pub mod Like
 pub mod Good
 pub mod Accurate
@@ -16,5 +18,6 @@ pub mod Accepted
 pub mod Answers
 pub mod Offered
 pub mod Bytes
+pub mod Restores
 pub mod Beside
 pub mod Cuts

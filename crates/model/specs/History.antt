@@ -1,4 +1,5 @@
--- Histories and cuts: 01's section of that name, and demand 3 as two claims. `crates/history` proves them.
+-- Histories and cuts: 01's section of that name, and demand 3: cuts are unseen, what a cut makes, that an image stays one, and that each
+-- premise is needed. `crates/history` proves them, the last `crates/cases`.
 use mathlib.Core.Path.{_≡_}
 use Prim.Native.Nat.{ℕ}
 use mathlib.Core.Bool.{Bool, true, false, cond, _&&_, not}
@@ -63,11 +64,12 @@ judged input image = verdict (validateOf image input) (cond (admitted input imag
 abbrev pub imageAfter : Bytes → Bytes → Bytes
 imageAfter input image = cond (admitted input image) (applyOf image input .buffer) image
 
--- the bytes that an operation said it wrote
+-- the value that comes with a number, 0 where none does
 abbrev pub firstValue : List ℕ → ℕ
 firstValue [] = 0
 firstValue (n ∷ ns) = n
 
+-- the bytes that an operation said it wrote
 abbrev pub written : Ended → Bytes
 written e = take (firstValue (e .reply .values)) (e .buffer)
 
@@ -162,6 +164,7 @@ factorHolds l (topic name id count factor named) = true
 factorHolds l (part r) = factorIs (nodeCount (replicas r)) (get key (topicKey (partitionTopic r)) l)
 factorHolds l (plain r) = true
 
+-- both, of an image's contents
 unfoldable pub premises : Contents → Bool
 premises c = idsApart (c .real) && every (factorHolds (c .real)) (c .real)
 
@@ -174,24 +177,43 @@ epochMild input =
 unfoldable pub roomLasts : Bytes → Bytes → Bool
 roomLasts input image = not (admitted input image && eqb (applyOf image input .reply .number) 18)
 
-unfoldable pub stepHolds : Step → Bytes → Bool
-stepHolds (give input) image = epochMild input && roomLasts input image
-stepHolds (cut own other) image = true
-stepHolds (askTopic name out) image = true
-stepHolds (askTopicId id out) image = true
-stepHolds (askPartition name n out) image = true
-stepHolds (askBroker node out) image = true
-stepHolds askEpoch image = true
-stepHolds askShort image = true
-stepHolds (askFreeze name out) image = true
-stepHolds (askThrottle node which) image = true
-stepHolds (askDowngrade level out) image = true
-stepHolds (snap out) image = true
+-- a test of the record that a step gives; a step that gives none passes it
+unfoldable pub ofGiven : (Bytes → Bool) → Step → Bool
+ofGiven test (give input) = test input
+ofGiven test (cut own other) = true
+ofGiven test (askTopic name out) = true
+ofGiven test (askTopicId id out) = true
+ofGiven test (askPartition name n out) = true
+ofGiven test (askBroker node out) = true
+ofGiven test askEpoch = true
+ofGiven test askShort = true
+ofGiven test (askFreeze name out) = true
+ofGiven test (askThrottle node which) = true
+ofGiven test (askDowngrade level out) = true
+ofGiven test (snap out) = true
 
--- of every image that a step gets
+-- the four premises apart, in the order in which the demand has them
+pub data Premise : Type 0 where
+  ids : Premise
+  factors : Premise
+  epochs : Premise
+  room : Premise
+
+-- of a step, and of the image that it gets
+unfoldable pub meetsAt : Premise → Step → Bytes → Bool
+meetsAt ids s image = idsApart (contentsOf image .real)
+meetsAt factors s image = every (factorHolds (contentsOf image .real)) (contentsOf image .real)
+meetsAt epochs s image = ofGiven epochMild s
+meetsAt room s image = ofGiven (λ input. roomLasts input image) s
+
+-- "at every step"
+unfoldable pub meets : Premise → List Step → Bytes → Bool
+meets p [] image = true
+meets p (s ∷ steps) image = meetsAt p s image && meets p steps (after s image)
+
+-- all four
 unfoldable pub holds : List Step → Bytes → Bool
-holds [] image = true
-holds (s ∷ steps) image = premises (contentsOf image) && stepHolds s image && holds steps (after s image)
+holds steps image = meets ids steps image && meets factors steps image && meets epochs steps image && meets room steps image
 
 -- 4. What is given: records that are bytes, and restore buffers of the image's capacity
 
@@ -231,11 +253,32 @@ CutBecomesRestored =
     (restoreOf (written (snapshotOf image own)) other ≡ record { reply = accepted []; buffer = imageOf (length image) (restored (contentsOf image)) })
     (cutImage own other image ≡ image)
 
--- and of any image that a history reaches
+-- and of any image that a history reaches: Restore gives 0 there, and the next step gets that image
 abbrev pub CutAnywhere : Type 0
 CutAnywhere =
     (buffer : Bytes) → isCapacity (length buffer) ≡ true → (steps : List Step) → Given (length buffer) steps →
     (own other : Bytes) → length other ≡ length buffer →
     let image = reached steps (openOf buffer .buffer) in
     eqb (snapshotOf image own .reply .number) 0 ≡ true →
-    reached (steps ++ (cut own other ∷ [])) (openOf buffer .buffer) ≡ imageOf (length buffer) (restored (contentsOf image))
+    (restoreOf (written (snapshotOf image own)) other .reply ≡ accepted []) ×
+    (reached (steps ++ (cut own other ∷ [])) (openOf buffer .buffer) ≡ imageOf (length buffer) (restored (contentsOf image)))
+
+-- what every step gets is an image, by the exact test and with no premise
+abbrev pub ReachedIsImage : Type 0
+ReachedIsImage =
+    (buffer : Bytes) → isCapacity (length buffer) ≡ true → (steps : List Step) → Given (length buffer) steps →
+    isImage (reached steps (openOf buffer .buffer)) ≡ true
+
+-- and so is what Restore leaves, whatever it was given and whether or not it refused a record of it
+abbrev pub RestoreLeavesImage : Type 0
+RestoreLeavesImage =
+    (input buffer : Bytes) → AreBytes input → isCapacity (length buffer) ≡ true → isImage (restoreOf input buffer .buffer) ≡ true
+
+-- A premise is needed: of some history all others hold, and yet its cuts are seen.
+pub record PremiseNeeded (p : Premise) : Type 0 where
+  pub buffer : Bytes
+  pub steps : List Step
+  pub capacity : isCapacity (length buffer) ≡ true
+  pub given : Given (length buffer) steps
+  pub others : (q : Premise) → (q ≡ p → ⊥) → meets q (uncut steps) (openOf buffer .buffer) ≡ true
+  pub seen : run steps (openOf buffer .buffer) ≡ run (uncut steps) (openOf buffer .buffer) → ⊥

@@ -29,6 +29,7 @@
 -- "Histories and cuts"
 --   steps, answers, the uncut history, the premises ....... History.Step, answer, uncut, holds
 --   demand 3 .............................................. History.CutsUnseen, CutBecomesRestored, CutAnywhere
+--   images stay images; each premise is needed ............ History.ReachedIsImage, RestoreLeavesImage, PremiseNeeded
 pub mod Choice
 pub mod Number
 pub mod Text

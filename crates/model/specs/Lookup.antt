@@ -92,11 +92,12 @@ literal = 0 ∷ []
 abbrev pub prefixed : Bytes
 prefixed = 1 ∷ []
 
--- by a finder of a pattern and a scope: the name's prefixes, the longest first
+-- by a finder of a scope: the name's prefixes, the longest first
 unfoldable pub longestBy : (Bytes → Option Rec) → Bytes → Bytes → Option Rec
 longestBy find before [] = find before
 longestBy find before (b ∷ name) = orElse (longestBy find (before ++ (b ∷ [])) name) (find before)
 
+-- by a finder of a pattern and a scope
 unfoldable pub freezeBy : (Bytes → Bytes → Option Rec) → Bytes → Option Rec
 freezeBy find name = cond (beginsWith internal name) none (orElse (find literal name) (longestBy (find prefixed) [] name))
 

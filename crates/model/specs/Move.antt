@@ -67,7 +67,7 @@ abbrev pub isNew : Option Entry → ℕ
 isNew none = 1
 isNew (some e) = 0
 
--- a partition's node lists and directories, by the Rust's names
+-- a partition's topic, node lists and directories, by the Rust's names
 abbrev pub partitionTopic : Run → Bytes
 partitionTopic r = value 1 r
 
@@ -104,6 +104,7 @@ onReal (putM r) l = put key (plain r) l
 onReal (dropM k) l = remove key k l
 onReal (joinM r) l = put key (plain r) l
 onReal (leaveM r) l = remove key (recordKey r) l
+-- "A changed id drops the old id's entry; the record's id, changed or not, then names this topic."
 onReal (topicM name id factor) l =
     let old = get key (topicKey name) l in
     put key (topic name id (countOf old) factor true) (map (unname id) (map (unnameOld old) l))
@@ -117,6 +118,7 @@ onReal (kraftM v) l = l
 -- the empty groups, given the real entries before the move
 unfoldable pub onEmpties : Move → List Entry → List Rec → List Rec
 onEmpties (joinM r) l g = remove recordKey (recordKey (groupOf r)) g
+-- "Removing the last broker config or quota leaves an empty group, and removing from an unknown node or entity list makes one."
 onEmpties (leaveM r) l g = cond (any key (inGroupOf r) (remove key (recordKey r) l)) g (put recordKey (groupOf r) g)
 onEmpties (putM r) l g = g
 onEmpties (dropM k) l g = g
@@ -184,7 +186,7 @@ fields (some (plain r)) = some (r .run)
 abbrev pub runAt : Key → List Entry → Option Run
 runAt k l = fields (get key k l)
 
--- the broker of a node, if it is registered at an epoch
+-- the broker of a node, and whether it is registered at an epoch
 abbrev pub brokerAt : Bytes → List Entry → Option Run
 brokerAt node l = runAt (nodeKey BrokerRegistration node) l
 

@@ -46,6 +46,6 @@ isSame Ordering·lt = false
 isSame Ordering·eq = true
 isSame Ordering·gt = false
 
--- equality of byte strings, and of numbers, as a test
+-- equality of byte strings, as a test
 unfoldable pub sameBytes : Bytes → Bytes → Bool
 sameBytes a b = isSame (compareBytes a b)

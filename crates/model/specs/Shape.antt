@@ -115,7 +115,8 @@ features = many listLimit feature
 abbrev pairs : Row
 pairs = many listLimit pair
 
--- a shape's rows, the first being tag 1's; each line is the Rust struct's field
+-- a shape's rows, the first being tag 1's: a line is a struct of the Rust's (or an element of its maps, or a topic as an image stores it), and
+-- each of its rows a field
 unfoldable pub rowsOf : Shape → List Row
 rowsOf (recordOf Topic) = must string ∷ must uuid ∷ must i32 ∷ must i16 ∷ []
 rowsOf (recordOf Partition) =

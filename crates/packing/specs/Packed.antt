@@ -1,16 +1,20 @@
 -- A reply in one number, and a value that is too wide for that: it goes to the first place of a lent list.
 use mathlib.Core.List.{List, [], _∷_}
-use Prim.Native.Nat.{ℕ, _+_, _*_}
+use Prim.Native.Nat.{ℕ, _+_, _*_, _/_, _%_}
 use lib.ListN.{length}
 use Rattle.model.specs.Reply.{Reply}
+use Rattle.model.specs.History.{firstValue}
 
--- the value that comes with a number, 0 where none does
-abbrev pub first : List ℕ → ℕ
-first [] = 0
-first (n ∷ ns) = n
-
+-- 01's number, and the value that comes with it, 0 where none does
 abbrev pub packed : Reply → ℕ
-packed r = r .number * 4294967296 + first (r .values)
+packed r = r .number * 4294967296 + firstValue (r .values)
+
+-- the two halves of such a number
+abbrev pub upperHalf : ℕ → ℕ
+upperHalf n = n / 4294967296
+
+abbrev pub lowerHalf : ℕ → ℕ
+lowerHalf n = n % 4294967296
 
 abbrev pub firstIs : List ℕ → List ℕ → List ℕ
 firstIs [] l = l

@@ -33,11 +33,12 @@ module _ {v : ℕ} {r : Reply} (e : numbered v ≡ r) where
 -- a cut, by what the snapshot says
 module _ (image own : Bytes) where
   pub cut-taken : (n : ℕ) (o : Bytes) → accepted (n ∷ []) ≡ snapshotOf image own .reply → o ≡ snapshotOf image own .buffer
-      → (b : Bytes) → b ≡ restoreOf (take n o) image .buffer → (true ≡ eqb (snapshotOf image own .reply .number) 0) × (b ≡ cutImage own image image)
+      → (b : Bytes) → b ≡ restoreOf (take n o) image .buffer
+      → (true ≡ eqb (snapshotOf image own .reply .number) 0) × ((b ≡ cutImage own image image) × (o ≡ snapshotOf image own .buffer))
   unfolding cutImage
-  cut-taken n o e f b h = rw (← e, ← f) (refl, h)
+  cut-taken n o e f b h = rw (← e, ← f) (refl, (h, refl))
 
-  pub cut-refused : (n : ℕ) → refused n ≡ snapshotOf image own .reply
-      → (false ≡ eqb (snapshotOf image own .reply .number) 0) × (image ≡ cutImage own image image)
+  pub cut-refused : (n : ℕ) (o : Bytes) → refused n ≡ snapshotOf image own .reply → o ≡ snapshotOf image own .buffer
+      → (false ≡ eqb (snapshotOf image own .reply .number) 0) × ((image ≡ cutImage own image image) × (o ≡ snapshotOf image own .buffer))
   unfolding cutImage
-  cut-refused n e = let k = refusal-counts image own n e in rw (← e, ne-eqb _ _ k) (refl, refl)
+  cut-refused n o e f = let k = refusal-counts image own n e in rw (← e, ne-eqb _ _ k) (refl, (refl, f))

@@ -25,10 +25,11 @@ pub fn give(image: &mut [u8], input: &[u8]) -> Said
     Said { validate, apply }
 }
 
-// A restart: a snapshot into `out`, and the image restored from it in its own buffer. Whether there was one: else the image stays.
+// A restart: a snapshot into `out`, and the image restored from it in its own buffer. Whether there was one: else the image stays, and `out` too.
 pub fn cut(image: &mut [u8], out: &mut [u8]) -> bool
     ensures { λ r. ⌜ r ≡ eqb (snapshotOf (now (image .entry)) (now (out .entry)) .reply .number) 0 ⌝ }
     ensures { λ _. ⌜ now (image .exit) ≡ cutImage (now (out .entry)) (now (image .entry)) (now (image .entry)) ⌝ }
+    ensures { λ _. ⌜ now (out .exit) ≡ snapshotOf (now (image .entry)) (now (out .entry)) .buffer ⌝ }
 {
     match snapshot::snapshot(image, out) {
         Answer::Used(n) => {

@@ -15,10 +15,18 @@ enum-known-n : tie.Need-enum-known-n
 enum-known-n c = search needs
 
 slice-reshare-prefix-restore : tie.Need-slice-reshare-prefix-restore
-slice-reshare-prefix-restore c = written-fits (c .before .before .before .before .before .before .before .before .before .before .before .args .image .now) (c .before .before .before .before .before .before .before .before .before .before .before .args .out .now) _ _ (ap replied (sym (c .before .before .n .given .1)) ∙ c .before .before .before .before .before .before .snapshot .ensures .0) (c .before .before .before .before .before .before .snapshot .ensures .1)
+slice-reshare-prefix-restore c =
+    let shot = c .before .before .before .before .before .before in
+    let start = shot .before .before .before .before .before in
+    let said = ap replied (sym (c .before .before .n .given .1)) ∙ shot .snapshot .ensures .0 in
+    written-fits (start .args .image .now) (start .args .out .now) _ _ said (shot .snapshot .ensures .1)
 
 slice-aggregate-restore : tie.Need-slice-aggregate-restore
-slice-aggregate-restore c = sym (length-take-le _ _ (written-fits (c .before .before .before .before .before .before .before .before .before .before .before .before .args .image .now) (c .before .before .before .before .before .before .before .before .before .before .before .before .args .out .now) _ _ (ap replied (sym (c .before .before .before .n .given .1)) ∙ c .before .before .before .before .before .before .before .snapshot .ensures .0) (c .before .before .before .before .before .before .before .snapshot .ensures .1)))
+slice-aggregate-restore c =
+    let shot = c .before .before .before .before .before .before .before in
+    let start = shot .before .before .before .before .before in
+    let said = ap replied (sym (c .before .before .before .n .given .1)) ∙ shot .snapshot .ensures .0 in
+    sym (length-take-le _ _ (written-fits (start .args .image .now) (start .args .out .now) _ _ said (shot .snapshot .ensures .1)))
 
 restore-requires : tie.Need-restore-requires
 restore-requires c κs = search needs
@@ -33,7 +41,11 @@ same-length-2 : tie.Need-same-length-2
 same-length-2 c = search needs
 
 returns : tie.Need-returns
-returns c = cut-taken (c .before .before .before .before .before .before .before .before .before .before .before .before .before .before .before .args .image .now) (c .before .before .before .before .before .before .before .before .before .before .before .before .before .before .before .args .out .now) _ _ (ap replied (sym (c .before .before .before .before .before .before .n .given .1)) ∙ c .before .before .before .before .before .before .before .before .before .before .snapshot .ensures .0) (c .before .before .before .before .before .before .before .before .before .before .snapshot .ensures .1) _ (c .before .before .restore .ensures .1)
+returns c =
+    let shot = c .before .before .before .before .before .before .before .before .before .before in
+    let start = shot .before .before .before .before .before in
+    let said = ap replied (sym (c .before .before .before .before .before .before .n .given .1)) ∙ shot .snapshot .ensures .0 in
+    cut-taken (start .args .image .now) (start .args .out .now) _ _ said (shot .snapshot .ensures .1) _ (c .before .before .restore .ensures .1)
 
 same-length-3 : tie.Need-same-length-3
 same-length-3 c = search needs
@@ -42,7 +54,11 @@ same-length-4 : tie.Need-same-length-4
 same-length-4 c = search needs
 
 returns-2 : tie.Need-returns-2
-returns-2 c = cut-refused (c .before .before .before .before .before .before .before .before .before .before .args .image .now) (c .before .before .before .before .before .before .before .before .before .before .args .out .now) _ (ap replied (sym (c .before .number .given .1)) ∙ c .before .before .before .before .before .snapshot .ensures .0)
+returns-2 c =
+    let shot = c .before .before .before .before .before in
+    let start = shot .before .before .before .before .before in
+    let said = ap replied (sym (c .before .number .given .1)) ∙ shot .snapshot .ensures .0 in
+    cut-refused (start .args .image .now) (start .args .out .now) _ _ said (shot .snapshot .ensures .1)
 
 pub cut-spec : {M : Type 1} → statement M
 cut-spec =

@@ -1,0 +1,8 @@
+-- The value that comes with an answer, the bytes used or written or a count, is below 2^32.
+--
+--   how long the records of an image can be ............... Records.Short, Records.entries-short, Records.entries-few
+--   how long the listing for a downgrade can be ........... Listing.listing-short
+--   each operation's value ................................ Values.Below, Values.read-below and its neighbours
+pub mod Records
+pub mod Listing
+pub mod Values

@@ -1,0 +1,1 @@
+// Laws of the values that come with answers. See `specs/`.
