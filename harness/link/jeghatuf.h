@@ -7,7 +7,13 @@
  *
  * Where nothing else is said, an answer is packed: a refusal's number, 0 where
  * there is none, times 2^32, plus a value: the bytes used or written, or a
- * count. A call that refuses leaves its lists as they were.
+ * count. A call that refuses leaves its lists as they were; only Restore, where
+ * it refuses a record, writes: see there.
+ *
+ * No memory is taken but the stack. A thread needs at most 384 KB of it for
+ * jeghatuf_apply and jeghatuf_restore, 16 KB for jeghatuf_read, jeghatuf_write
+ * and jeghatuf_open, and 96 KB for every other call. (Measured on x86-64 on full
+ * images, in threads of falling size: 316, 16 and 72 KB served.)
  */
 #ifndef JEGHATUF_H
 #define JEGHATUF_H
@@ -55,7 +61,8 @@ uint64_t jeghatuf_snapshot(const uint8_t *image, size_t image_len, uint8_t *out,
 
 /* Makes a buffer the image of the records of the input. The value is 0. Where a
  * record is refused, place[0] gets the byte that it begins at, and the buffer
- * becomes the image of the records before it. */
+ * becomes the image of the records before it. Where the buffer has no capacity
+ * for an image (1), both stay as they were. */
 uint64_t jeghatuf_restore(uint8_t *image, size_t image_len, const uint8_t *input, size_t input_len,
                           uint64_t *place, size_t place_len);
 

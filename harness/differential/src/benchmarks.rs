@@ -11,12 +11,14 @@ mod restarts;
 mod rows;
 mod tables;
 mod times;
+mod worst;
 
 pub use page::Page;
 
 use crate::images::Full;
 use records::Record;
 use rows::Row;
+use worst::Worst;
 
 /// The capacities of the images, in bytes.
 const SIZES: [usize; 4] = [1_024, 4_096, 16_384, 65_536];
@@ -31,6 +33,7 @@ pub struct Figures {
     counts: [usize; SIZES.len()],
     rows: Vec<Row>,
     records: Vec<Record>,
+    worst: Vec<Worst>,
 }
 
 impl Figures {
@@ -43,6 +46,7 @@ impl Figures {
                 counts: images.each_ref().map(|full| full.image.to_records().len()),
                 rows: rows::measure(&images),
                 records: records::measure(),
+                worst: worst::measure(&images[SIZES.len() - 1]),
             }
         });
         passes.reduce(Self::best).expect("a pass")
@@ -52,10 +56,12 @@ impl Figures {
     fn best(self, other: Self) -> Self {
         let rows = self.rows.into_iter().zip(other.rows);
         let records = self.records.into_iter().zip(other.records);
+        let worst = self.worst.into_iter().zip(other.worst);
         Self {
             counts: self.counts,
             rows: rows.map(|(one, other)| one.best(&other)).collect(),
             records: records.map(|(one, other)| one.best(&other)).collect(),
+            worst: worst.map(|(one, other)| one.best(&other)).collect(),
         }
     }
 

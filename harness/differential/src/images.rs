@@ -22,7 +22,7 @@ pub use full::Full;
 pub use history::compare_history;
 pub use listings::compare_listing;
 pub use open::compare_open;
-pub(crate) use subject::knobs;
+pub(crate) use subject::{Subject, knobs};
 pub use tally::Tally;
 
 /// Nothing, or the first difference in words.

@@ -14,11 +14,10 @@ use crate::images::Full;
 use crate::{apply, is_image, open, validate};
 
 pub fn measure(full: &Full) -> Vec<Timed> {
-    assert_eq!(is_image(&full.bytes), 1, "{} bytes", full.bytes.len());
     let [topic, partition, broker] = stored(full);
     vec![
         fresh(full),
-        exact(full),
+        exact("exact test", &full.bytes),
         validated(full, "Validate, topic (refused, 6)", &topic),
         validated(full, "Validate, partition", &partition),
         validated(full, "Validate, broker", &broker),
@@ -50,12 +49,13 @@ fn fresh(full: &Full) -> Timed {
     )
 }
 
-fn exact(full: &Full) -> Timed {
+pub fn exact(name: &'static str, bytes: &[u8]) -> Timed {
+    assert_eq!(is_image(bytes), 1, "{name}");
     Timed::of(
-        "exact test",
+        name,
         "the harness's own test",
-        || is_image(black_box(&full.bytes)),
-        || oracle::exact::is_image(black_box(&full.bytes)),
+        || is_image(black_box(bytes)),
+        || oracle::exact::is_image(black_box(bytes)),
     )
 }
 

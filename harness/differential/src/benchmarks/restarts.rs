@@ -5,23 +5,22 @@ use std::hint::black_box;
 
 use krabka_metadata::{MetadataImage, MetadataRecord};
 use oracle::image::image;
-use oracle::observe::{Witness, observe};
 use oracle::{downgrade, order};
 use uuid::Uuid;
 use wire::{decode, encode};
 
 use super::rows::Timed;
-use crate::images::Full;
+use crate::images::{Full, Subject};
 
 /// A level at which every partition is listed.
 const LEVEL: i16 = 16;
 
 pub fn measure(full: &Full) -> Vec<Timed> {
-    let snapshot = snapshot(&full.image);
+    let (capacity, snapshot) = (full.bytes.len(), snapshot(&full.image));
     vec![
         taken(full, &snapshot),
-        restored(full, "Restore", &snapshot),
-        restored(full, "Restore, last record first", &turned(&snapshot)),
+        restored(capacity, "Restore", &snapshot),
+        restored(capacity, "Restore, records reversed", &turned(&snapshot)),
         listed(full),
     ]
 }
@@ -41,11 +40,11 @@ fn taken(full: &Full, expected: &[u8]) -> Timed {
     )
 }
 
-fn restored(full: &Full, name: &'static str, input: &[u8]) -> Timed {
-    let mut buffer = vec![0; full.bytes.len()];
+pub fn restored(capacity: usize, name: &'static str, input: &[u8]) -> Timed {
+    let mut buffer = vec![0; capacity];
     assert_eq!(crate::restore(&mut buffer, input), Ok(()), "{name}");
     assert!(
-        Some(&buffer) == laid_out(input, buffer.len()).as_ref(),
+        Some(&buffer) == laid_out(input, capacity).as_ref(),
         "{name}"
     );
     Timed::of(
@@ -70,7 +69,7 @@ fn listed(full: &Full) -> Timed {
     )
 }
 
-fn snapshot(image: &MetadataImage) -> Vec<u8> {
+pub fn snapshot(image: &MetadataImage) -> Vec<u8> {
     let mut records = image.to_records();
     order::sort(&mut records);
     encoded(&records)
@@ -82,7 +81,7 @@ fn rebuilt(input: &[u8]) -> MetadataImage {
 
 /// The bytes of the Rust's image of some records.
 fn laid_out(input: &[u8], capacity: usize) -> Option<Vec<u8>> {
-    image(&observe(&rebuilt(input), &Witness::default()), capacity)
+    image(&Subject::of(&decoded(input)).observed, capacity)
 }
 
 fn listing(image: &MetadataImage) -> Vec<u8> {
@@ -96,14 +95,14 @@ fn turned(snapshot: &[u8]) -> Vec<u8> {
     encoded(&records)
 }
 
-fn encoded(records: &[MetadataRecord]) -> Vec<u8> {
+pub fn encoded(records: &[MetadataRecord]) -> Vec<u8> {
     let encoded = records.iter().map(encode);
     encoded
         .flat_map(|record| record.expect("a kind that 01 has"))
         .collect()
 }
 
-fn decoded(mut bytes: &[u8]) -> Vec<MetadataRecord> {
+pub fn decoded(mut bytes: &[u8]) -> Vec<MetadataRecord> {
     let mut records = Vec::new();
     while !bytes.is_empty() {
         let (record, used) = decode(bytes).expect("a snapshot's record");

@@ -8,9 +8,9 @@ use crate::images::Full;
 
 /// One operation on one image.
 pub struct Timed {
-    name: &'static str,
-    beside: &'static str,
-    times: Times,
+    pub name: &'static str,
+    pub beside: &'static str,
+    pub times: Times,
 }
 
 impl Timed {

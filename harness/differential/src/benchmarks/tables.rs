@@ -3,6 +3,7 @@
 use super::numbers::{ratio, size, time};
 use super::records::Record;
 use super::rows::Row;
+use super::worst::Worst;
 use super::{Figures, PASSES, SIZES};
 use crate::timing::ROUNDS;
 
@@ -14,6 +15,8 @@ pub fn tables(figures: &Figures) -> String {
         beside(&figures.rows),
         "Read and Write, which take no image, beside the harness's own:\n".to_owned(),
         records(&figures.records),
+        "Worst cases found, at 64 KB, beside the same call on the plain full image:\n".to_owned(),
+        worst(&figures.worst, &figures.rows),
     ]
     .join("\n")
 }
@@ -61,6 +64,24 @@ fn records(records: &[Record]) -> String {
             cells.extend([time(times.proved), time(times.rust), ratio(times.ratio())]);
         }
         cells
+    });
+    table(head, 1, rows)
+}
+
+fn worst(cases: &[Worst], rows: &[Row]) -> String {
+    let head = "call | time | plain image | worst/plain | Rust | proved/Rust";
+    let rows = cases.iter().map(|case| {
+        let row = rows.iter().find(|row| row.name == case.plain);
+        let [.., plain] = row.expect("an operation that was measured").times;
+        let Worst { name, times, .. } = case;
+        vec![
+            (*name).to_owned(),
+            time(times.proved),
+            time(plain.proved),
+            ratio(times.proved / plain.proved),
+            time(times.rust),
+            ratio(times.ratio()),
+        ]
     });
     table(head, 1, rows)
 }

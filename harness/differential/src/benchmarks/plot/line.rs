@@ -13,7 +13,7 @@ const PROVED: [(&str, &str); 8] = [
     ("Apply, partition", "#d55e00"),
     SNAPSHOT,
     RESTORE,
-    ("Restore, last record first", "#e69f00"),
+    ("Restore, records reversed", "#e69f00"),
     ("freeze", "#56b4e9"),
     ("downgrade to level 16", "#8c6d31"),
 ];

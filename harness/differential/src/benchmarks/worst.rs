@@ -1,0 +1,108 @@
+//! What was found to take longest at the largest capacity, beside the same
+//! operation on the plain full image.
+
+use krabka_metadata::{ClientQuotaRecord, MetadataRecord, QuotaEntity};
+use oracle::facts::build::topic;
+use oracle::image::image;
+
+use super::restarts::{decoded, encoded, restored, snapshot};
+use super::rows::Timed;
+use super::times::Times;
+use super::{SIZES, changes};
+use crate::images::{Full, Subject};
+
+const CAPACITY: usize = SIZES[SIZES.len() - 1];
+/// As many topics of two-byte names as the capacity takes.
+const TOPICS: u64 = 1_391;
+/// As many empty quota groups of one entity with a two-byte type.
+const GROUPS: u64 = 4_672;
+/// The printable ASCII characters that are no space, and the first of them.
+const CHARACTERS: u64 = 94;
+const FIRST: u64 = 33;
+
+pub struct Worst {
+    pub name: &'static str,
+    /// The row of the same operation on the plain image.
+    pub plain: &'static str,
+    pub times: Times,
+}
+
+impl Worst {
+    fn of(plain: &'static str, timed: Timed) -> Self {
+        let Timed { name, times, .. } = timed;
+        Self { name, plain, times }
+    }
+
+    /// The better times of both.
+    pub fn best(self, other: &Self) -> Self {
+        Self {
+            times: self.times.best(other.times),
+            ..self
+        }
+    }
+}
+
+pub fn measure(full: &Full) -> Vec<Worst> {
+    let moved = last_first(&snapshot(&full.image));
+    let groups = encoded(&empty_groups());
+    vec![
+        Worst::of(
+            "exact test",
+            changes::exact(
+                "exact test, 1,391 topics whose ids differ in bytes 12 and 13 alone",
+                &alike_ids(),
+            ),
+        ),
+        Worst::of(
+            "Restore",
+            restored(
+                CAPACITY,
+                "Restore, the last record moved to the front",
+                &moved,
+            ),
+        ),
+        Worst::of(
+            "Restore",
+            restored(CAPACITY, "Restore, 4,672 empty quota groups", &groups),
+        ),
+    ]
+}
+
+/// All ids end in the same two bytes, so that each is sought among those
+/// before it; and each differs from them late.
+fn alike_ids() -> Vec<u8> {
+    let records: Vec<_> = (0..TOPICS)
+        .map(|number| topic(&two(number), number << 16, 0, 3))
+        .collect();
+    image(&Subject::of(&records).observed, CAPACITY).expect("topics that fit")
+}
+
+/// No snapshot has empty groups, so that they are restored one by one; they
+/// are short, and each is sought behind all before it.
+fn empty_groups() -> Vec<MetadataRecord> {
+    let group = |number| {
+        let entity = QuotaEntity {
+            entity_type: two(number),
+            entity_name: None,
+        };
+        MetadataRecord::V1ClientQuota(ClientQuotaRecord {
+            entity: vec![entity],
+            config_key: String::new(),
+            config_value: None,
+        })
+    };
+    (0..GROUPS).map(group).collect()
+}
+
+fn last_first(snapshot: &[u8]) -> Vec<u8> {
+    let mut records = decoded(snapshot);
+    records.rotate_right(1);
+    encoded(&records)
+}
+
+/// Two characters; those of a greater number come later.
+fn two(number: u64) -> String {
+    let places = [number / CHARACTERS, number % CHARACTERS];
+    let byte = |place| u8::try_from(FIRST + place).expect("a number below 94 times 94");
+    places.map(byte).map(char::from).iter().collect()
+}
