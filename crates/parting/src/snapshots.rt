@@ -19,6 +19,14 @@ pub fn take_snapshot(image: &[u8], out: &mut [u8]) -> usize
     }
 }
 
+// One more; no snapshot has as many records as would not fit.
+pub fn more_by_one(n: u64) -> u64 {
+    if n < 65536 {
+        return n + 1;
+    }
+    n
+}
+
 // Where the record at a place ends: at the end of all where it does not read.
 pub fn end_of(records: &[u8], at: usize) -> usize
     requires { ⌜ at < length (now records) ⌝ }
@@ -63,31 +71,41 @@ fn parting(records: &[u8], other: &[u8]) -> usize {
 }
 
 // Says which record two snapshots do not share.
-fn say_parting(records: &[u8], other: &[u8]) {
+fn say_parting(records: &[u8], other: &[u8]) -> bool {
     let at = parting(records, other);
     let mut kind = kind_at(records, at);
     if kind == 0 {
         kind = kind_at(other, at);
     }
-    say(b"  after the restart: the snapshot has another ");
-    say_kind(kind);
-    say(b"\n");
+    say(b"  after the restart: the snapshot has another ") && say_kind(kind) && say(b"\n")
+}
+
+// Whether two snapshots are the same, and whether what was said of it was written.
+pub struct Compared {
+    pub same: bool,
+    pub written: bool,
 }
 
 // Whether two snapshots have the same records; where not, says where they part.
-fn same_records(records: &[u8], other: &[u8]) -> bool
-    ensures { λ r. ⌜ r ≡ sameBytes (now (records .entry)) (now (other .entry)) ⌝ }
+fn same_records(records: &[u8], other: &[u8]) -> Compared
+    ensures { λ r. ⌜ r .same ≡ sameBytes (now (records .entry)) (now (other .entry)) ⌝ }
 {
     let same = wire::same(records, other);
-    if !same {
-        say_parting(records, other);
+    if same {
+        return Compared {
+            same,
+            written: true,
+        };
     }
-    same
+    Compared {
+        same,
+        written: say_parting(records, other),
+    }
 }
 
 // Whether two images have the same snapshot; where not, says where they part.
-pub fn same_snapshots(plain: &[u8], other: &[u8], out: &mut [u8], more: &mut [u8]) -> bool
-    ensures { λ r. ⌜ r ≡ sameBytes (written (snapshotOf (now (plain .entry)) (now (out .entry)))) (written (snapshotOf (now (other .entry)) (now (more .entry)))) ⌝ }
+pub fn same_snapshots(plain: &[u8], other: &[u8], out: &mut [u8], more: &mut [u8]) -> Compared
+    ensures { λ r. ⌜ r .same ≡ sameBytes (written (snapshotOf (now (plain .entry)) (now (out .entry)))) (written (snapshotOf (now (other .entry)) (now (more .entry)))) ⌝ }
 {
     let n = take_snapshot(plain, out);
     let m = take_snapshot(other, more);

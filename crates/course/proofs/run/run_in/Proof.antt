@@ -1,11 +1,11 @@
--- `inspect::run::run_in` ends, and stays in its buffers.
+-- `course::run::run_in` ends, and stays in its buffers.
 use Prim.Native.Nat.{_-_, _≤_}
 use mathlib.Core.Path.{_≡_}
 use native.Mathlib.Omega.{arith}
 use lib.ListN.{length}
 use borrow.Author.Needs.{needs}
-use Rattle.inspect.proofs.run.run_in.Statement.{statement}
-use Rattle.inspect.proofs.run.run_in.Tie as tie
+use Rattle.course.proofs.run.run_in.Statement.{statement}
+use Rattle.course.proofs.run.run_in.Tie as tie
 
 abbrev Inv-loop : tie.InvT-loop
 Inv-loop fd window₀ plain₀ other₀ out₀ more₀ cuts source₀ course₀ window plain other out more source course = (length window ≡ length window₀) × (length plain ≡ length plain₀) × (length other ≡ length other₀) × (length out ≡ length out₀) × (length more ≡ length more₀) × (source .at ≤ source .end) × (source .end ≤ length window)
@@ -16,8 +16,14 @@ abbrev μ-loop : tie.MeasureT-loop
 start-requires : tie.Need-start-requires Inv-loop μ-loop
 start-requires c κs = search needs
 
+fresh-requires : tie.Need-fresh-requires Inv-loop μ-loop
+fresh-requires c κs = search needs
+
 loop-holds : tie.Need-loop-holds Inv-loop μ-loop
 loop-holds c = search needs
+
+left-requires : tie.Need-left-requires Inv-loop μ-loop
+left-requires c κs = search needs
 
 refill-requires : tie.Need-refill-requires Inv-loop μ-loop
 refill-requires c κs = search needs
@@ -34,11 +40,8 @@ part-size-of-end c = search needs
 size-of-requires : tie.Need-size-of-requires Inv-loop μ-loop
 size-of-requires c κs = search needs
 
-sub-say-torn : tie.Need-sub-say-torn Inv-loop μ-loop
-sub-say-torn c = search needs
-
-say-torn-requires : tie.Need-say-torn-requires Inv-loop μ-loop
-say-torn-requires c κs = search needs
+ended-requires : tie.Need-ended-requires Inv-loop μ-loop
+ended-requires c κs = search needs
 
 same-length : tie.Need-same-length Inv-loop μ-loop
 same-length c = search needs
@@ -74,24 +77,35 @@ turn-requires : tie.Need-turn-requires Inv-loop μ-loop
 turn-requires c κs = search needs
 
 passed-requires : tie.Need-passed-requires Inv-loop μ-loop
-passed-requires c κs = (search needs, omega (arith, c .before .before .before .before .before .before .before .before .before .before .before .before .before .before .before .before .before .before .before .before .before .refill .ensures .1, c .before .before .before .before .before .before .before .before .before .before .before .before .before .before .before .before .before .before .before .before .before .before .before .before .before .loop .inv .0, c .before .before .before .before .before .before .before .before .before .before .before .before .before .before .before .before .before .before .before .before .before .before .before .before .before .before .before .before .before .before .before .before .pre))
+passed-requires c κs =
+    let sized = c .before .before .before .before .before .before .before .before .before .before .before .before .before .before .before .before in
+    let filled = sized .before .before .before .before .before in
+    let head = filled .before .before .before .before in
+    (omega (arith, sized .size-of .ensures, filled .refill .ensures), omega (arith, filled .refill .ensures .1, head .loop .inv .0, head .before .before .before .before .before .before .before .before .pre))
 
 tell-progress-requires : tie.Need-tell-progress-requires Inv-loop μ-loop
 tell-progress-requires c κs = search needs
 
 loop-less : tie.Need-loop-less Inv-loop μ-loop
-loop-less c = search needs
+loop-less c =
+    let turned = c .before .before .before .before .before .before .before .before .before .before in
+    let went = turned .before .before .before .before .before .before .before .before .before .before .before .before .before .before .before in
+    omega (arith, turned .turn .ensures, went .if1 .taken, went .before .left .ensures)
 
 loop-again : tie.Need-loop-again Inv-loop μ-loop
-loop-again c = (
-  omega (arith, c .before .before .before .before .before .before .before .before .before .before .before .before .before .before .before .before .before .before .before .before .before .before .before .refill .kept, c .before .before .before .before .before .before .before .before .before .before .before .before .before .before .before .before .before .before .before .before .before .before .before .before .before .before .before .loop .inv .0),
-  omega (arith, c .before .before .before .before .before .before .before .before .before .before .turn .kept .0, c .before .before .before .before .before .before .before .before .before .before .before .before .before .before .before .before .before .before .before .before .before .before .before .before .before .before .before .loop .inv .1),
-  omega (arith, c .before .before .before .before .before .before .before .before .before .before .turn .kept .1 .0, c .before .before .before .before .before .before .before .before .before .before .before .before .before .before .before .before .before .before .before .before .before .before .before .before .before .before .before .loop .inv .2),
-  omega (arith, c .before .before .before .before .before .before .before .before .before .before .turn .kept .1 .1 .0, c .before .before .before .before .before .before .before .before .before .before .before .before .before .before .before .before .before .before .before .before .before .before .before .before .before .before .before .loop .inv .3),
-  omega (arith, c .before .before .before .before .before .before .before .before .before .before .turn .kept .1 .1 .1 .0, c .before .before .before .before .before .before .before .before .before .before .before .before .before .before .before .before .before .before .before .before .before .before .before .before .before .before .before .loop .inv .4),
-  c .before .passed .ensures .0,
-  omega (arith, c .before .passed .ensures .1, c .before .before .before .before .before .before .before .before .before .before .before .before .before .before .before .before .before .before .before .before .before .before .before .refill .ensures .1, c .before .before .before .before .before .before .before .before .before .before .before .before .before .before .before .before .before .before .before .before .before .before .before .refill .kept),
-)
+loop-again c =
+    let turned = c .before .before .before .before .before .before .before .before .before .before in
+    let filled = turned .before .before .before .before .before .before .before .before .before .before .before .before .before in
+    let inv = filled .before .before .before .before .loop .inv in
+    let kept = turned .turn .kept in (
+      omega (arith, filled .refill .kept, inv .0),
+      omega (arith, kept .0, inv .1),
+      omega (arith, kept .1 .0, inv .2),
+      omega (arith, kept .1 .1 .0, inv .3),
+      omega (arith, kept .1 .1 .1 .0, inv .4),
+      c .before .passed .ensures .0,
+      omega (arith, c .before .passed .ensures .1, filled .refill .ensures .1, filled .refill .kept),
+    )
 
 same-length-6 : tie.Need-same-length-6 Inv-loop μ-loop
 same-length-6 c = search needs
@@ -118,14 +132,15 @@ run-in-spec =
     Inv-loop
     μ-loop
     start-requires
+    fresh-requires
     loop-holds
+    left-requires
     refill-requires
     sub-size-of
     part-size-of-start
     part-size-of-end
     size-of-requires
-    sub-say-torn
-    say-torn-requires
+    ended-requires
     same-length
     same-length-2
     same-length-3

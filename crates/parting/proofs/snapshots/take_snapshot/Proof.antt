@@ -1,10 +1,10 @@
--- `report::snapshots::take_snapshot` meets its contract: by what the snapshot says.
+-- `parting::snapshots::take_snapshot` meets its contract: by what the snapshot says.
 use mathlib.Core.Path.{sym, ap, _∙_}
 use borrow.Author.Needs.{needs}
 use Rattle.records.specs.Answers.{replied}
-use Rattle.report.proofs.Taken.{taken, not-taken}
-use Rattle.report.proofs.snapshots.take_snapshot.Statement.{statement}
-use Rattle.report.proofs.snapshots.take_snapshot.Tie as tie
+use Rattle.parting.proofs.Taken.{taken, not-taken}
+use Rattle.parting.proofs.snapshots.take_snapshot.Statement.{statement}
+use Rattle.parting.proofs.snapshots.take_snapshot.Tie as tie
 
 snapshot-requires : tie.Need-snapshot-requires
 snapshot-requires c κs = search needs

@@ -1,5 +1,6 @@
 // What the topics' ids name: no record of a snapshot says it.
 use crate::snapshots::end_of;
+use crate::snapshots::more_by_one;
 use crate::snapshots::take_snapshot;
 use keys::value_at;
 use records::Answer;
@@ -50,25 +51,45 @@ fn is_renamed(plain: &[u8], other: &[u8], rec: &[u8]) -> bool {
     !same_name(plain, other, &id)
 }
 
+// How many topics' ids name another topic, and whether what was said of them was written.
+pub struct Apart {
+    pub count: u64,
+    pub written: bool,
+}
+
+// A record, which is said where it is such a topic.
+fn with_record(plain: &[u8], other: &[u8], rec: &[u8], seen: Apart) -> Apart {
+    if !is_renamed(plain, other, rec) {
+        return seen;
+    }
+    Apart {
+        count: more_by_one(seen.count),
+        written: say(b"  after the restart: the id of topic ")
+            && say_field(rec, 1)
+            && say(b" names another topic\n"),
+    }
+}
+
 // How many of the records are such topics; says each.
-fn count_renamed(plain: &[u8], other: &[u8], records: &[u8]) -> u64 {
-    let mut count = 0;
+fn count_renamed(plain: &[u8], other: &[u8], records: &[u8]) -> Apart {
+    let mut seen = Apart {
+        count: 0,
+        written: true,
+    };
     let mut at = 0;
     while at < records.len() {
         let end = end_of(records, at);
-        if is_renamed(plain, other, &records[at..end]) {
-            say(b"  after the restart: the id of topic ");
-            say_field(&records[at..end], 1);
-            say(b" names another topic\n");
-            count += 1;
+        seen = with_record(plain, other, &records[at..end], seen);
+        if !seen.written {
+            return seen;
         }
         at = end;
     }
-    count
+    seen
 }
 
 // How many topics' ids name another topic in the second image; says each.
-pub fn renamed(plain: &[u8], other: &[u8], out: &mut [u8]) -> u64 {
+pub fn renamed(plain: &[u8], other: &[u8], out: &mut [u8]) -> Apart {
     let n = take_snapshot(plain, out);
     count_renamed(plain, other, &out[..n])
 }

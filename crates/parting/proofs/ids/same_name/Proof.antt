@@ -1,10 +1,10 @@
--- `report::ids::same_name` ends, and stays in its buffers.
+-- `parting::ids::same_name` ends, and stays in its buffers.
 use Prim.Native.Nat.{_-_}
 use mathlib.Core.Path.{sym}
 use lib.Seq.{length-take-le}
 use borrow.Author.Needs.{needs}
-use Rattle.report.proofs.ids.same_name.Statement.{statement}
-use Rattle.report.proofs.ids.same_name.Tie as tie
+use Rattle.parting.proofs.ids.same_name.Statement.{statement}
+use Rattle.parting.proofs.ids.same_name.Tie as tie
 
 buffer-requires : tie.Need-buffer-requires
 buffer-requires c κs = search needs

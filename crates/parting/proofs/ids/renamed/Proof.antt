@@ -1,10 +1,10 @@
--- `report::ids::renamed` ends, and stays in its buffers.
+-- `parting::ids::renamed` ends, and stays in its buffers.
 use Prim.Native.Nat.{_-_}
 use mathlib.Core.Path.{sym}
 use lib.Seq.{length-take-le}
 use borrow.Author.Needs.{needs}
-use Rattle.report.proofs.ids.renamed.Statement.{statement}
-use Rattle.report.proofs.ids.renamed.Tie as tie
+use Rattle.parting.proofs.ids.renamed.Statement.{statement}
+use Rattle.parting.proofs.ids.renamed.Tie as tie
 
 take-snapshot-requires : tie.Need-take-snapshot-requires
 take-snapshot-requires c κs = search needs

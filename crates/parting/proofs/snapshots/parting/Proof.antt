@@ -1,9 +1,9 @@
--- `report::snapshots::parting` ends, and stays in its buffers.
+-- `parting::snapshots::parting` ends, and stays in its buffers.
 use Prim.Native.Nat.{_-_, _≤_}
 use lib.ListN.{length}
 use borrow.Author.Needs.{needs}
-use Rattle.report.proofs.snapshots.parting.Statement.{statement}
-use Rattle.report.proofs.snapshots.parting.Tie as tie
+use Rattle.parting.proofs.snapshots.parting.Statement.{statement}
+use Rattle.parting.proofs.snapshots.parting.Tie as tie
 
 abbrev Inv-loop : tie.InvT-loop
 Inv-loop records other at₀ at = at ≤ length records

@@ -1,10 +1,10 @@
--- `report::snapshots::same_snapshots` meets its contract: both snapshots are compared as they were written.
+-- `parting::snapshots::same_snapshots` meets its contract: both snapshots are compared as they were written.
 use Prim.Native.Nat.{_-_}
 use mathlib.Core.Path.{sym}
 use lib.Seq.{length-take-le}
 use borrow.Author.Needs.{needs}
-use Rattle.report.proofs.snapshots.same_snapshots.Statement.{statement}
-use Rattle.report.proofs.snapshots.same_snapshots.Tie as tie
+use Rattle.parting.proofs.snapshots.same_snapshots.Statement.{statement}
+use Rattle.parting.proofs.snapshots.same_snapshots.Tie as tie
 
 take-snapshot-requires : tie.Need-take-snapshot-requires
 take-snapshot-requires c κs = search needs
