@@ -1,4 +1,5 @@
 // What exists in an image: its snapshot read record by record.
+use crate::quotas::say_quota;
 use crate::topics::say_topic;
 use lookup::Rated;
 use lookup::Value;
@@ -89,9 +90,10 @@ fn with_record(image: &[u8], records: &[u8], rec: &[u8], seen: Seen) -> Seen {
         2 => next.partitions = more_by_one(seen.partitions),
         3 => next.brokers = more_by_one(seen.brokers),
         6 => next = with_config(image, rec, seen),
+        7 => next.written = say_quota(rec),
         8 => next.light = rec.len(),
         18 => next.written = say_freeze(rec),
-        0 | 4 | 5 | 7 | 9..=17 | 19..=255 => {}
+        0 | 4 | 5 | 9..=17 | 19..=255 => {}
     }
     next
 }

@@ -28,6 +28,26 @@ pub fn say_of(words: &[u8], n: u64) -> bool {
     say(words) && say_number(n)
 }
 
+// All sixteen digits of a number, as those of bits.
+pub fn say_bits(bits: u64) -> bool {
+    say(b"0x") && explained(io::print_hex(STDOUT_FILENO, bits, 16))
+}
+
+// How far a number is from 0.
+fn size_of(n: i64) -> u64 {
+    if n >= 0 {
+        return n as u64;
+    }
+    ((-1 - n) as u64) + 1
+}
+
+pub fn say_integer(n: i64) -> bool {
+    if n >= 0 {
+        return say_number(size_of(n));
+    }
+    say_of(b"-", size_of(n))
+}
+
 // A byte of a name, but for a control byte: a name cannot make a line of its own.
 fn say_byte(byte: u8) -> bool {
     if byte < 32 || byte == 127 {

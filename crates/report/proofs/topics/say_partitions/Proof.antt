@@ -6,10 +6,10 @@ use Rattle.report.proofs.topics.say_partitions.Statement.{statement}
 use Rattle.report.proofs.topics.say_partitions.Tie as tie
 
 abbrev Inv-loop : tie.InvT-loop
-Inv-loop records topic at₀ at = at ≤ length records
+Inv-loop records topic line at₀ at = at ≤ length records
 
 abbrev μ-loop : tie.MeasureT-loop
-μ-loop records topic at₀ at = length records - at
+μ-loop records topic line at₀ at = length records - at
 
 loop-holds : tie.Need-loop-holds Inv-loop μ-loop
 loop-holds c = search needs
