@@ -59,15 +59,7 @@ fn left(course: Course) -> u64
 }
 
 // Reads the whole file through a window. A proved loop has to end, and nothing says that a file does: the records end at a number that no run comes to.
-fn run_in(
-    fd: i32,
-    window: &mut [u8],
-    plain: &mut [u8],
-    other: &mut [u8],
-    out: &mut [u8],
-    more: &mut [u8],
-    cuts: Cuts,
-) -> Course
+fn run_in(fd: i32, window: &mut [u8], plain: &mut [u8], other: &mut [u8], cuts: Cuts) -> Course
     requires { ⌜ length (now window) ≤ 262144 ⌝ }
 {
     let mut source = start();
@@ -81,16 +73,7 @@ fn run_in(
             return ended(course, source);
         }
         let next = at + n;
-        course = turn(
-            plain,
-            other,
-            out,
-            more,
-            source.place,
-            &window[at..next],
-            cuts,
-            course,
-        );
+        course = turn(plain, other, source.place, &window[at..next], cuts, course);
         source = passed(source, n);
         tell_progress(course.records, source.place);
     }
@@ -98,14 +81,7 @@ fn run_in(
 }
 
 // Reads the whole file.
-pub fn run(
-    fd: i32,
-    plain: &mut [u8],
-    other: &mut [u8],
-    out: &mut [u8],
-    more: &mut [u8],
-    cuts: Cuts,
-) -> Course {
+pub fn run(fd: i32, plain: &mut [u8], other: &mut [u8], cuts: Cuts) -> Course {
     let mut window = [0u8; 262144];
-    run_in(fd, &mut window, plain, other, out, more, cuts)
+    run_in(fd, &mut window, plain, other, cuts)
 }

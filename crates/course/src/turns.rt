@@ -108,13 +108,14 @@ fn is_due(course: Course, cuts: Cuts) -> bool {
 }
 
 // Restarts the second image where that is due.
-fn with_restart(other: &mut [u8], out: &mut [u8], cuts: Cuts, course: Course) -> Course
+fn with_restart(other: &mut [u8], cuts: Cuts, course: Course) -> Course
     ensures { λ r. ⌜ r .records ≡ course .records ⌝ }
 {
     if !is_due(course, cuts) {
         return course;
     }
-    restarted(course, cut(other, out))
+    let mut out = io::large_buffer();
+    restarted(course, cut(other, &mut out))
 }
 
 // What comparing the snapshots gave.
@@ -130,19 +131,15 @@ fn compared(course: Course, same: bool, written: bool) -> Course
 }
 
 // Compares the snapshots, once there was a restart.
-fn with_snapshots(
-    plain: &[u8],
-    other: &[u8],
-    out: &mut [u8],
-    more: &mut [u8],
-    course: Course,
-) -> Course
+fn with_snapshots(plain: &[u8], other: &[u8], course: Course) -> Course
     ensures { λ r. ⌜ r .records ≡ course .records ⌝ }
 {
     if !course.written || course.restarts == 0 {
         return course;
     }
-    let answer = same_snapshots(plain, other, out, more);
+    let mut out = io::large_buffer();
+    let mut more = io::large_buffer();
+    let answer = same_snapshots(plain, other, &mut out, &mut more);
     compared(course, answer.same, answer.written)
 }
 
@@ -150,8 +147,6 @@ fn with_snapshots(
 pub fn turn(
     plain: &mut [u8],
     other: &mut [u8],
-    out: &mut [u8],
-    more: &mut [u8],
     place: u64,
     rec: &[u8],
     cuts: Cuts,
@@ -163,6 +158,6 @@ pub fn turn(
     let said = give(plain, rec);
     let first = counted(course, say_line(place, rec, said));
     let second = with_verdict(other, rec, said, cuts, first);
-    let third = with_restart(other, out, cuts, second);
-    with_snapshots(plain, other, out, more, third)
+    let third = with_restart(other, cuts, second);
+    with_snapshots(plain, other, third)
 }

@@ -32,17 +32,18 @@ fn say_changes(course: Course, ids: u64) -> bool {
 }
 
 // What exists after the history, and what the restarts changed, where some were asked for.
-fn say_end(course: Course, plain: &[u8], cut: &[u8], out: &mut [u8], cuts: Cuts) -> bool {
+fn say_end(course: Course, plain: &[u8], cut: &[u8], cuts: Cuts) -> bool {
+    let mut out = io::large_buffer();
     if !say_of(b"records: ", course.records) || !say(b"\n") {
         return false;
     }
-    if !say_all(plain, out) {
+    if !say_all(plain, &mut out) {
         return false;
     }
     if !cuts.any {
         return true;
     }
-    let ids = renamed(plain, cut, out);
+    let ids = renamed(plain, cut, &mut out);
     ids.written && say_changes(course, ids.count)
 }
 
@@ -53,11 +54,9 @@ fn inspect(fd: i32, plain: &mut [u8], cut: &mut [u8], cuts: Cuts) -> bool {
         return true;
     }
     header::open(cut);
-    let mut out = io::large_buffer();
-    let mut more = io::large_buffer();
-    let course = run(fd, plain, cut, &mut out, &mut more, cuts);
+    let course = run(fd, plain, cut, cuts);
     if course.read && course.written {
-        say_end(course, plain, cut, &mut out, cuts);
+        say_end(course, plain, cut, cuts);
     }
     course.read
 }

@@ -8,10 +8,10 @@ use Rattle.course.proofs.run.run_in.Statement.{statement}
 use Rattle.course.proofs.run.run_in.Tie as tie
 
 abbrev Inv-loop : tie.InvT-loop
-Inv-loop fd window₀ plain₀ other₀ out₀ more₀ cuts source₀ course₀ window plain other out more source course = (length window ≡ length window₀) × (length plain ≡ length plain₀) × (length other ≡ length other₀) × (length out ≡ length out₀) × (length more ≡ length more₀) × (source .at ≤ source .end) × (source .end ≤ length window)
+Inv-loop fd window₀ plain₀ other₀ cuts source₀ course₀ window plain other source course = (length window ≡ length window₀) × (length plain ≡ length plain₀) × (length other ≡ length other₀) × (source .at ≤ source .end) × (source .end ≤ length window)
 
 abbrev μ-loop : tie.MeasureT-loop
-μ-loop fd window₀ plain₀ other₀ out₀ more₀ cuts source₀ course₀ window plain other out more source course = 9223372036854775807 - (course .records)
+μ-loop fd window₀ plain₀ other₀ cuts source₀ course₀ window plain other source course = 9223372036854775807 - (course .records)
 
 start-requires : tie.Need-start-requires Inv-loop μ-loop
 start-requires c κs = search needs
@@ -52,12 +52,6 @@ same-length-2 c = search needs
 same-length-3 : tie.Need-same-length-3 Inv-loop μ-loop
 same-length-3 c = search needs
 
-same-length-4 : tie.Need-same-length-4 Inv-loop μ-loop
-same-length-4 c = search needs
-
-same-length-5 : tie.Need-same-length-5 Inv-loop μ-loop
-same-length-5 c = search needs
-
 returns : tie.Need-returns Inv-loop μ-loop
 returns c = search needs
 
@@ -78,49 +72,41 @@ turn-requires c κs = search needs
 
 passed-requires : tie.Need-passed-requires Inv-loop μ-loop
 passed-requires c κs =
-    let sized = c .before .before .before .before .before .before .before .before .before .before .before .before .before .before .before .before in
+    let sized = c .before .before .before .before .before .before .before .before .before .before in
     let filled = sized .before .before .before .before .before in
     let head = filled .before .before .before .before in
-    (omega (arith, sized .size-of .ensures, filled .refill .ensures), omega (arith, filled .refill .ensures .1, head .loop .inv .0, head .before .before .before .before .before .before .before .before .pre))
+    (omega (arith, sized .size-of .ensures, filled .refill .ensures), omega (arith, filled .refill .ensures .1, head .loop .inv .0, head .before .before .before .before .before .before .pre))
 
 tell-progress-requires : tie.Need-tell-progress-requires Inv-loop μ-loop
 tell-progress-requires c κs = search needs
 
 loop-less : tie.Need-loop-less Inv-loop μ-loop
 loop-less c =
-    let turned = c .before .before .before .before .before .before .before .before .before .before in
-    let went = turned .before .before .before .before .before .before .before .before .before .before .before .before .before .before .before in
+    let turned = c .before .before .before .before .before .before in
+    let went = turned .before .before .before .before .before .before .before .before .before .before .before .before .before in
     omega (arith, turned .turn .ensures, went .if1 .taken, went .before .left .ensures)
 
 loop-again : tie.Need-loop-again Inv-loop μ-loop
 loop-again c =
-    let turned = c .before .before .before .before .before .before .before .before .before .before in
-    let filled = turned .before .before .before .before .before .before .before .before .before .before .before .before .before in
+    let turned = c .before .before .before .before .before .before in
+    let filled = turned .before .before .before .before .before .before .before .before .before .before .before in
     let inv = filled .before .before .before .before .loop .inv in
     let kept = turned .turn .kept in (
       omega (arith, filled .refill .kept, inv .0),
       omega (arith, kept .0, inv .1),
-      omega (arith, kept .1 .0, inv .2),
-      omega (arith, kept .1 .1 .0, inv .3),
-      omega (arith, kept .1 .1 .1 .0, inv .4),
+      omega (arith, kept .1, inv .2),
       c .before .passed .ensures .0,
       omega (arith, c .before .passed .ensures .1, filled .refill .ensures .1, filled .refill .kept),
     )
 
+same-length-4 : tie.Need-same-length-4 Inv-loop μ-loop
+same-length-4 c = search needs
+
+same-length-5 : tie.Need-same-length-5 Inv-loop μ-loop
+same-length-5 c = search needs
+
 same-length-6 : tie.Need-same-length-6 Inv-loop μ-loop
 same-length-6 c = search needs
-
-same-length-7 : tie.Need-same-length-7 Inv-loop μ-loop
-same-length-7 c = search needs
-
-same-length-8 : tie.Need-same-length-8 Inv-loop μ-loop
-same-length-8 c = search needs
-
-same-length-9 : tie.Need-same-length-9 Inv-loop μ-loop
-same-length-9 c = search needs
-
-same-length-10 : tie.Need-same-length-10 Inv-loop μ-loop
-same-length-10 c = search needs
 
 returns-2 : tie.Need-returns-2 Inv-loop μ-loop
 returns-2 c = search needs
@@ -144,8 +130,6 @@ run-in-spec =
     same-length
     same-length-2
     same-length-3
-    same-length-4
-    same-length-5
     returns
     add-next
     sub-turn
@@ -156,9 +140,7 @@ run-in-spec =
     tell-progress-requires
     loop-less
     loop-again
+    same-length-4
+    same-length-5
     same-length-6
-    same-length-7
-    same-length-8
-    same-length-9
-    same-length-10
     returns-2)
