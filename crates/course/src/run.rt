@@ -58,6 +58,13 @@ fn left(course: Course) -> u64
     MOST - course.records
 }
 
+// Says how far the reading is, while something can be said.
+fn tell(course: Course, place: u64) {
+    if course.written {
+        tell_progress(course.records, place);
+    }
+}
+
 // Reads the whole file through a window. A proved loop has to end, and nothing says that a file does: the records end at a number that no run comes to.
 fn run_in(fd: i32, window: &mut [u8], plain: &mut [u8], other: &mut [u8], cuts: Cuts) -> Course
     requires { ⌜ length (now window) ≤ 262144 ⌝ }
@@ -75,7 +82,7 @@ fn run_in(fd: i32, window: &mut [u8], plain: &mut [u8], other: &mut [u8], cuts: 
         let next = at + n;
         course = turn(plain, other, source.place, &window[at..next], cuts, course);
         source = passed(source, n);
-        tell_progress(course.records, source.place);
+        tell(course, source.place);
     }
     course
 }

@@ -34,7 +34,7 @@ pub fn say_bits(bits: u64) -> bool {
 }
 
 // How far a number is from 0.
-fn size_of(n: i64) -> u64 {
+fn magnitude(n: i64) -> u64 {
     if n >= 0 {
         return n as u64;
     }
@@ -43,9 +43,9 @@ fn size_of(n: i64) -> u64 {
 
 pub fn say_integer(n: i64) -> bool {
     if n >= 0 {
-        return say_number(size_of(n));
+        return say_number(magnitude(n));
     }
-    say_of(b"-", size_of(n))
+    say_of(b"-", magnitude(n))
 }
 
 // A byte of a name, but for a control byte: a name cannot make a line of its own.

@@ -1,8 +1,8 @@
--- `words::size_of` stays in its types, by the sign.
+-- `words::magnitude` stays in its types, by the sign.
 use borrow.Author.Needs.{needs}
 use Rattle.words.proofs.Signs.{cast-fits, less-fits, less-cast, less-add}
-use Rattle.words.proofs.size_of.Statement.{statement}
-use Rattle.words.proofs.size_of.Tie as tie
+use Rattle.words.proofs.magnitude.Statement.{statement}
+use Rattle.words.proofs.magnitude.Tie as tie
 
 cast-result : tie.Need-cast-result
 cast-result c = cast-fits _ (c .before .fits .n) (c .if1 .taken)
@@ -22,6 +22,6 @@ add-result c = less-add _ (c .before .fits .n) (c .if1 .left)
 returns-2 : tie.Need-returns-2
 returns-2 c = search needs
 
-pub size-of-spec : {M : Type 1} → statement M
-size-of-spec =
+pub magnitude-spec : {M : Type 1} → statement M
+magnitude-spec =
     tie.close (tie.spec cast-result returns sub-result cast-result-2 add-result returns-2)
