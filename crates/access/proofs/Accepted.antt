@@ -43,4 +43,4 @@ field-read source (k ∷ h ∷ l ∷ s) r used tag e =
     let run = runOf (take m s) in
     let g = got-run run (3 + m) r used (ltb (length s) m) (kindOf k) (λ kind. fault source kind run) e in
     let room : m ≤ length s = ltb-false (length s) m (g .0) in
-    sym (field-whole (k ∷ h ∷ l ∷ s) tag tag m refl (omega arith) (omega arith)) ∙ rw (three-add m) (ap (field tag) (g .1))
+    sym (field-whole (k ∷ h ∷ l ∷ s) tag m (omega arith) (omega arith)) ∙ rw (three-add m) (ap (field tag) (g .1))

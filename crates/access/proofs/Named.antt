@@ -1,13 +1,18 @@
 -- The named answers, by whether there is a number.
-use mathlib.Core.Path.{_≡_, sym, _∙_}
+use mathlib.Core.Path.{_≡_, refl, sym, _∙_}
+use mathlib.Core.List.{[], _∷_}
 use mathlib.Core.Option.{Option, none, some}
 use Prim.Native.Nat.{ℕ, _<_}
+use native.Mathlib.Omega.{arith}
+use borrow.Author.Tests.{ne-eqb}
 use lib.IntN.{ℤ}
+use lib.ListN.{length, getD}
 use Rattle.model.specs.Number.{Bytes}
-use Rattle.model.specs.Kind.{kindNumber}
+use Rattle.model.specs.Kind.{kindNumber, kindOf}
+use Rattle.laws.specs.Choice.{impossible}
 use Rattle.quota.specs.Quota.{quotaOf}
 use Rattle.quota.specs.declared.Quota.{Quota}
-use Rattle.access.specs.Access.{fieldNumber, numberIn, signed, nodeIn, epochIn, quotaIn, numbered, Below}
+use Rattle.access.specs.Access.{fieldNumber, numberIn, signed, kindTag, nodeIn, epochIn, quotaIn, numbered, Below}
 use Rattle.access.specs.declared.Number.{Number}
 use Rattle.access.specs.declared.Number.the-variants.{Is, Missing}
 use Rattle.access.specs.declared.Node.the-variants.{Is as node, Missing as noNode}
@@ -27,14 +32,24 @@ pub below-is : {bound : ℕ} {r : Number} {n : ℕ} → r ≡ Is n → Below bou
 unfolding Below
 below-is {bound} {r} {n} h b = let q : Below bound (Is n) = rw h at b in q
 
-module _ (s : Bytes) (tag : ℕ) {r : Number} (e : numbered r ≡ fieldNumber s tag 8) where
-  pub node-is : {n : ℕ} → r ≡ Is n → node (record { 0 = n }) ≡ nodeIn s tag
-  unfolding nodeIn
-  node-is h = rw (answer-is e h)
+pub node-empty : (s : Bytes) → length s ≡ 0 → noNode ≡ nodeIn s
+unfolding nodeIn kindTag kindOf
+node-empty [] h = refl
+node-empty (x ∷ s) h = impossible (omega arith)
 
-  pub node-missing : r ≡ Missing → noNode ≡ nodeIn s tag
+module _ (s : Bytes) (tag : ℕ) (t : tag ≡ kindTag (getD s 0 0)) where
+  pub node-none : tag ≡ 0 → noNode ≡ nodeIn s
   unfolding nodeIn
-  node-missing h = rw (answer-missing e h)
+  node-none h = rw (← t, h)
+
+  module _ (h : tag ≡ 0 → ⊥) {r : Number} (e : numbered r ≡ fieldNumber s tag 8) where
+    pub node-is : {n : ℕ} → r ≡ Is n → node (record { 0 = n }) ≡ nodeIn s
+    unfolding nodeIn
+    node-is q = rw (← t, ne-eqb _ _ h, answer-is e q)
+
+    pub node-missing : r ≡ Missing → noNode ≡ nodeIn s
+    unfolding nodeIn
+    node-missing q = rw (← t, ne-eqb _ _ h, answer-missing e q)
 
 module _ (s : Bytes) {r : Number} (e : numbered r ≡ numberIn s 2 6 4) where
   pub epoch-is : {n : ℕ} {z : ℤ} → r ≡ Is n → z ≡ signed 4 n → epoch (record { 0 = z }) ≡ epochIn s

@@ -1,7 +1,7 @@
 -- A field's number, by what was found.
 use mathlib.Core.Path.{_≡_, sym, _∙_}
 use mathlib.Core.Option.{none, some}
-use Prim.Native.Nat.{ℕ, _+_, _≤_}
+use Prim.Native.Nat.{ℕ, _+_}
 use native.Mathlib.Omega.{arith}
 use borrow.Author.Tests.{eq-eqb, ne-eqb}
 use lib.Dec.{eqb}
@@ -17,11 +17,6 @@ use Rattle.access.specs.Access.{recordField, numberOf, fieldNumber, numb
 use Rattle.access.proofs.Body.{field-cut}
 
 -- 1. By the field
-
-pub within-more : {to more : ℕ} (r : Found) → to ≤ more → Within to r → Within more r
-unfolding Within
-within-more (Part start len) h w = omega (arith, w)
-within-more Missing h w = tt
 
 module _ (s : Bytes) (tag width : ℕ) where
   number-none : recordField s tag ≡ none → none ≡ fieldNumber s tag width

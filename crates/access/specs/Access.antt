@@ -10,8 +10,10 @@ use lib.Seq.{slice}
 use Rattle.model.specs.Choice.{given}
 use Rattle.model.specs.Number.{Bytes, number, span, isNegative}
 use Rattle.model.specs.Run.{runOf, field}
-use Rattle.model.specs.Kind.{kindNumber}
-use Rattle.model.specs.declared.Kind.the-variants.{Partition, ClientQuota}
+use Rattle.model.specs.Kind.{kindNumber, kindOf}
+use Rattle.model.specs.declared.Kind.{Kind}
+use Rattle.model.specs.declared.Kind.the-variants.{Topic, Partition, BrokerRegistration, DeleteTopic, TopicConfig, BrokerConfig, ClientQuota, ProducerIds, UnregisterBroker, KRaftVersion, FeatureLevel, ClientMetricsConfig, FeaturesEpoch}
+use Rattle.model.specs.declared.Kind.the-variants.{PartitionDirAssignment, PartitionOffsetAdvance, GroupConfig, ControllerRegistration, TopicFreeze, BreakGlassProposal, DeleteBreakGlassProposal, PartitionElr, PartitionRecovery, PartitionUpdate, BrokerRegistrationChange, UnregisterController}
 use Rattle.quota.specs.Quota.{quotaOf}
 use Rattle.access.specs.declared.Number.{Number}
 use Rattle.access.specs.declared.Number.the-variants.{Is, Missing}
@@ -49,9 +51,44 @@ numberIn s kind tag width = cond (eqb (getD s 0 0) kind) (fieldNumber s tag widt
 abbrev pub signed : ℕ → ℕ → ℤ
 signed width n = cond (isNegative width n) (negsuc (span width - suc n)) (pos n)
 
+-- The tag of a kind's node, 0 for a kind that has none. Every field of the table that is a u64 is a node: leader, node_id, broker_id, replica.
+unfoldable pub nodeTag : Kind → ℕ
+nodeTag Topic = 0
+nodeTag Partition = 3
+nodeTag BrokerRegistration = 1
+nodeTag DeleteTopic = 0
+nodeTag TopicConfig = 0
+nodeTag BrokerConfig = 1
+nodeTag ClientQuota = 0
+nodeTag ProducerIds = 1
+nodeTag UnregisterBroker = 1
+nodeTag KRaftVersion = 0
+nodeTag FeatureLevel = 0
+nodeTag ClientMetricsConfig = 0
+nodeTag FeaturesEpoch = 0
+nodeTag PartitionDirAssignment = 3
+nodeTag PartitionOffsetAdvance = 0
+nodeTag GroupConfig = 0
+nodeTag ControllerRegistration = 1
+nodeTag TopicFreeze = 0
+nodeTag BreakGlassProposal = 0
+nodeTag DeleteBreakGlassProposal = 0
+nodeTag PartitionElr = 0
+nodeTag PartitionRecovery = 0
+nodeTag PartitionUpdate = 0
+nodeTag BrokerRegistrationChange = 1
+nodeTag UnregisterController = 1
+
+unfoldable pub kindTag : ℕ → ℕ
+kindTag n = given (kindOf n) 0 nodeTag
+
 -- a node, in the field of a tag
-unfoldable pub nodeIn : Bytes → ℕ → Node
-nodeIn s tag = given (fieldNumber s tag 8) noNode (λ n. node (record { 0 = n }))
+abbrev pub nodeAt : Bytes → ℕ → Node
+nodeAt s tag = cond (eqb tag 0) noNode (given (fieldNumber s tag 8) noNode (λ n. node (record { 0 = n })))
+
+-- a record's node, by its kind
+unfoldable pub nodeIn : Bytes → Node
+nodeIn s = nodeAt s (kindTag (getD s 0 0))
 
 -- a Partition's leader epoch
 unfoldable pub epochIn : Bytes → Epoch

@@ -1,24 +1,26 @@
 // Field access by tag and by name, on the record that some bytes begin with. Later bytes are not looked at, and a record that is cut has no
 // fields.
-use fields::Cursor;
 use fields::Found;
-use fields::field;
 use model::LeaderEpoch;
 use model::NodeId;
 use quota::Quota;
+use reader::find;
 use wire::get;
 use wire::get16;
 use wire::size;
 ghost use mathlib.Core.Path.{_≡_};
 ghost use Prim.Native.Nat.{_≤_};
-ghost use lib.ListN.{length};
 ghost use Rattle.model.specs.Number.{span};
-ghost use Rattle.fields.specs.Fields.{held, Within};
-ghost use Rattle.access.specs.Access.{recordField, fieldNumber, numberIn, signed as signedOf, nodeIn, epochIn, quotaIn, numbered, Below};
+ghost use Rattle.model.specs.Run.{runOf};
+ghost use Rattle.fields.specs.Fields.{placeOf};
+ghost use Rattle.access.specs.Access.{bodyIn, fieldNumber, numberIn, signed as signedOf, kindTag, nodeIn, epochIn, quotaIn, numbered, Below};
 
-// The first field of a tag in the record at the start of `s`.
+// Where a record's fields begin: after its kind and its body's length.
+const BODY: usize = 3;
+
+// Where the first field of a tag has its value, in the record at the start of `s`.
 pub fn field_of(s: &[u8], tag: u8) -> Found
-    ensures { λ r. ⌜ (held (now (s .entry)) r ≡ recordField (now (s .entry)) tag) × Within (length (now (s .entry))) r ⌝ }
+    ensures { λ r. ⌜ r ≡ placeOf tag 3 (runOf (bodyIn (now (s .entry)))) ⌝ }
 {
     if s.len() < 3 {
         return Found::Missing;
@@ -27,7 +29,8 @@ pub fn field_of(s: &[u8], tag: u8) -> Found
     if s.len() - 3 < len {
         return Found::Missing;
     }
-    field(s, Cursor { at: 3, to: 3 + len }, size(tag))
+    let end = BODY + len;
+    find(&s[..end], BODY, size(tag))
 }
 
 // A field's number, missing where there is no such field or it has another length.
@@ -82,10 +85,56 @@ pub enum Node {
     Missing,
 }
 
-// The node in the field of a tag, where it has eight bytes.
-pub fn node_id(s: &[u8], tag: u8) -> Node
-    ensures { λ r. ⌜ r ≡ nodeIn (now (s .entry)) tag ⌝ }
+// By kind, the tag of the field that is a node; 0 where a kind has none.
+const NODE_TAGS: [u8; 26] = [
+    0, // no kind
+    0, // 1 Topic
+    3, // 2 Partition, leader
+    1, // 3 BrokerRegistration, node_id
+    0, // 4 DeleteTopic
+    0, // 5 TopicConfig
+    1, // 6 BrokerConfig, node_id
+    0, // 7 ClientQuota
+    1, // 8 ProducerIds, broker_id
+    1, // 9 UnregisterBroker, node_id
+    0, // 10 KRaftVersion
+    0, // 11 FeatureLevel
+    0, // 12 ClientMetricsConfig
+    0, // 13 FeaturesEpoch
+    3, // 14 PartitionDirAssignment, replica
+    0, // 15 PartitionOffsetAdvance
+    0, // 16 GroupConfig
+    1, // 17 ControllerRegistration, node_id
+    0, // 18 TopicFreeze
+    0, // 19 BreakGlassProposal
+    0, // 20 DeleteBreakGlassProposal
+    0, // 21 PartitionElr
+    0, // 22 PartitionRecovery
+    0, // 23 PartitionUpdate
+    1, // 24 BrokerRegistrationChange, node_id
+    1, // 25 UnregisterController, node_id
+];
+
+fn node_tag(kind: u8) -> u8
+    ensures { λ r. ⌜ r ≡ kindTag kind ⌝ }
 {
+    if 26 <= kind {
+        return 0;
+    }
+    NODE_TAGS[kind as usize]
+}
+
+// The node of the record at the start of `s`, by its kind: a partition's leader, a broker, a controller or a replica.
+pub fn node_id(s: &[u8]) -> Node
+    ensures { λ r. ⌜ r ≡ nodeIn (now (s .entry)) ⌝ }
+{
+    if s.len() == 0 {
+        return Node::Missing;
+    }
+    let tag = node_tag(s[0]);
+    if tag == 0 {
+        return Node::Missing;
+    }
     match number_of(s, tag, 8) {
         Number::Is(n) => Node::Is(NodeId(n)),
         Number::Missing => Node::Missing,

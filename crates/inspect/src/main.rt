@@ -3,71 +3,74 @@
 //
 //     inspect [FILE] [cut N | cut all] [at CAPACITY]
 
-mod run;
-mod verdicts;
-
 use arguments::Cuts;
 use arguments::Options;
 use arguments::read_options;
+use course::run::run;
+use course::turns::Course;
+use parting::ids::renamed;
 use report::exists::say_all;
-use report::ids::renamed;
-use run::Course;
-use run::run;
 use words::complain;
 use words::say;
 use words::say_of;
 
 // What the restarts changed: of verdicts, of snapshots, and of what the ids name at the end.
-fn say_changes(course: Course, ids: u64) {
+fn say_changes(course: Course, ids: u64) -> bool {
     if course.restarts == 0 {
-        say(b"There was no restart: the file has fewer records.\n");
-        return;
+        return say(b"There was no restart: the file has fewer records.\n");
     }
-    say_of(b"restarts: ", course.restarts);
+    if !say_of(b"restarts: ", course.restarts) {
+        return false;
+    }
     if course.verdicts == 0 && course.snapshots == 0 && ids == 0 {
-        say(b"; no later answer changed\n");
-        return;
+        return say(b"; no later answer changed\n");
     }
-    say_of(b"; changed: verdicts ", course.verdicts);
-    say_of(b", snapshots ", course.snapshots);
-    say_of(b", topics by id ", ids);
-    say(b"\n");
+    say_of(b"; changed: verdicts ", course.verdicts)
+        && say_of(b", snapshots ", course.snapshots)
+        && say_of(b", topics by id ", ids)
+        && say(b"\n")
 }
 
 // What exists after the history, and what the restarts changed, where some were asked for.
-fn say_end(course: Course, plain: &[u8], cut: &[u8], out: &mut [u8], cuts: Cuts) {
-    say_of(b"records: ", course.records);
-    say(b"\n");
-    say_all(plain, out);
-    if !cuts.any {
-        return;
+fn say_end(course: Course, plain: &[u8], cut: &[u8], cuts: Cuts) -> bool {
+    let mut out = io::large_buffer();
+    if !say_of(b"records: ", course.records) || !say(b"\n") {
+        return false;
     }
-    say_changes(course, renamed(plain, cut, out));
+    if !say_all(plain, &mut out) {
+        return false;
+    }
+    if !cuts.any {
+        return true;
+    }
+    let ids = renamed(plain, cut, &mut out);
+    ids.written && say_changes(course, ids.count)
 }
 
-// The history on two fresh images, one of them with the restarts.
-fn inspect(fd: i32, plain: &mut [u8], cut: &mut [u8], cuts: Cuts) {
+// The history on two fresh images, one of them with the restarts. Whether the file could be read: nothing is said to exist where it could not.
+fn inspect(fd: i32, plain: &mut [u8], cut: &mut [u8], cuts: Cuts) -> bool {
     if header::open(plain) != 0 {
         complain(b"a capacity is from 128 to 65536");
-        return;
+        return true;
     }
     header::open(cut);
-    let mut out = io::large_buffer();
-    let mut more = io::large_buffer();
-    let course = run(fd, plain, cut, &mut out, &mut more, cuts);
-    say_end(course, plain, cut, &mut out, cuts);
+    let course = run(fd, plain, cut, cuts);
+    if course.read && course.written {
+        say_end(course, plain, cut, cuts);
+    }
+    course.read
 }
 
-// Two images of a capacity, in buffers of the greatest one.
-fn inspect_at(fd: i32, plain: &mut [u8], cut: &mut [u8], capacity: usize, cuts: Cuts) {
+// Two images of a capacity, in buffers of the greatest one. Whether the file could be read.
+fn inspect_at(fd: i32, plain: &mut [u8], cut: &mut [u8], capacity: usize, cuts: Cuts) -> bool {
     if plain.len() < capacity {
         complain(b"a capacity is from 128 to 65536");
-        return;
+        return true;
     }
     if cut.len() < capacity {
-        return;
+        return true;
     }
-    inspect(fd, &mut plain[..capacity], &mut cut[..capacity], cuts);
+    inspect(fd, &mut plain[..capacity], &mut cut[..capacity], cuts)
 }
 
 // Opens a file and inspects it, or says why it cannot be read.
@@ -80,7 +83,9 @@ fn inspect_path(path: &[u8], options: Options) {
     let mut plain = io::large_buffer();
     let mut cut = io::large_buffer();
     let cuts = options.cuts;
-    inspect_at(fd, &mut plain, &mut cut, options.capacity as usize, cuts);
+    if !inspect_at(fd, &mut plain, &mut cut, options.capacity as usize, cuts) {
+        os::fail(path);
+    }
     libc::close(fd);
 }
 

@@ -1,25 +1,22 @@
 // What exists in an image: its snapshot read record by record.
-use crate::snapshots::end_of;
-use crate::snapshots::take_snapshot;
-use keys::value_at;
+use crate::quotas::say_quota;
+use crate::topics::say_topic;
 use lookup::Rated;
 use lookup::Value;
 use model::NodeId;
-use words::OF_FOUR;
-use words::OF_TWO;
+use parting::snapshots::end_of;
+use parting::snapshots::more_by_one;
+use parting::snapshots::take_snapshot;
 use words::field_number;
 use words::say;
 use words::say_field;
-use words::say_number;
 use words::say_of;
-use words::say_signed;
-
-const PARTITION: u8 = 2;
 
 // The node whose configs are every node's.
 const DEFAULT: u64 = 0xffff_ffff_ffff_ffff;
 
-// What was seen of a snapshot's records: how many of each, the node whose configs came last, and the bytes that do not weigh.
+// What was seen of a snapshot's records: how many of each, the node whose configs came last, the bytes that do not
+// weigh, and whether all that was said was written.
 struct Seen {
     brokers: u64,
     topics: u64,
@@ -27,85 +24,43 @@ struct Seen {
     configured: bool,
     node: u64,
     light: usize,
+    written: bool,
 }
 
-// One more; no snapshot has as many records as would not fit.
-fn more_by_one(n: u64) -> u64 {
-    if n < 65536 {
-        return n + 1;
-    }
-    n
-}
-
-// Whether a record is a partition whose topic is the one of another record.
-fn is_partition_of(rec: &[u8], topic: &[u8]) -> bool {
-    if rec.len() < 3 || topic.len() < 3 {
-        return false;
-    }
-    let p = value_at(rec, 1);
-    let q = value_at(topic, 1);
-    let a = p.start;
-    let b = p.end;
-    let c = q.start;
-    let d = q.end;
-    rec[0] == PARTITION && wire::same(&rec[a..b], &topic[c..d])
-}
-
-// The partitions of a topic, by their numbers.
-fn say_partitions(records: &[u8], topic: &[u8]) {
-    let mut at = 0;
-    while at < records.len() {
-        let end = end_of(records, at);
-        if is_partition_of(&records[at..end], topic) {
-            say_signed(b" ", &records[at..end], 2, OF_FOUR);
-        }
-        at = end;
-    }
-}
-
-fn say_topic(records: &[u8], topic: &[u8]) {
-    say(b"topic ");
-    say_field(topic, 1);
-    say(b": partitions");
-    say_partitions(records, topic);
-    say_signed(b"; count ", topic, 3, OF_FOUR);
-    say_signed(b", replication factor ", topic, 4, OF_TWO);
-    say(b"\n");
-}
-
-fn say_freeze(rec: &[u8]) {
+// Which names a freeze holds.
+fn say_frozen(rec: &[u8]) -> bool {
     if field_number(rec, 2) == 0 {
-        say(b"frozen: ");
-    } else {
-        say(b"frozen, every name that begins with: ");
+        return say(b"frozen: ");
     }
-    say_field(rec, 1);
-    say(b"\n");
+    say(b"frozen, every name that begins with: ")
+}
+
+fn say_freeze(rec: &[u8]) -> bool {
+    say_frozen(rec) && say_field(rec, 1) && say(b"\n")
+}
+
+// A node, by whose configs a throttle is set.
+fn say_node(node: u64) -> bool {
+    if node == DEFAULT {
+        return say(b"every other broker");
+    }
+    say_of(b"broker ", node)
 }
 
 // A throttle of a node, where one is set.
-fn say_throttle(image: &[u8], node: u64, kind: u8, words: &[u8]) {
+fn say_throttle(image: &[u8], node: u64, kind: u8, words: &[u8]) -> bool {
     match lookup::throttle(image, NodeId(node), kind) {
-        Rated::Rate(n) => {
-            if node == DEFAULT {
-                say(b"every other broker");
-            } else {
-                say_of(b"broker ", node);
-            }
-            say(words);
-            say_number(n);
-            say(b" bytes a second\n");
-        }
-        Rated::None => {}
-        Rated::Refused(number) => {}
+        Rated::Rate(n) => say_node(node) && say_of(words, n) && say(b" bytes a second\n"),
+        Rated::None => true,
+        Rated::Refused(number) => true,
     }
 }
 
 // The throttles of a node.
-fn say_throttles(image: &[u8], node: u64) {
-    say_throttle(image, node, 0, b", leader's throttle: ");
-    say_throttle(image, node, 1, b", follower's throttle: ");
-    say_throttle(image, node, 2, b", throttle between log directories: ");
+fn say_throttles(image: &[u8], node: u64) -> bool {
+    say_throttle(image, node, 0, b", leader's throttle: ")
+        && say_throttle(image, node, 1, b", follower's throttle: ")
+        && say_throttle(image, node, 2, b", throttle between log directories: ")
 }
 
 // A config of a broker: its throttles, once for all configs of a node. They stand together.
@@ -114,10 +69,10 @@ fn with_config(image: &[u8], rec: &[u8], seen: Seen) -> Seen {
     if seen.configured && seen.node == node {
         return seen;
     }
-    say_throttles(image, node);
     let mut next = seen;
     next.configured = true;
     next.node = node;
+    next.written = say_throttles(image, node);
     next
 }
 
@@ -129,15 +84,16 @@ fn with_record(image: &[u8], records: &[u8], rec: &[u8], seen: Seen) -> Seen {
     let mut next = seen;
     match rec[0] {
         1 => {
-            say_topic(records, rec);
             next.topics = more_by_one(seen.topics);
+            next.written = say_topic(records, rec);
         }
         2 => next.partitions = more_by_one(seen.partitions),
         3 => next.brokers = more_by_one(seen.brokers),
         6 => next = with_config(image, rec, seen),
+        7 => next.written = say_quota(rec),
         8 => next.light = rec.len(),
-        18 => say_freeze(rec),
-        0 | 4 | 5 | 7 | 9..=17 | 19..=255 => {}
+        18 => next.written = say_freeze(rec),
+        0 | 4 | 5 | 9..=17 | 19..=255 => {}
     }
     next
 }
@@ -151,45 +107,52 @@ fn say_entries(image: &[u8], records: &[u8]) -> Seen {
         configured: false,
         node: 0,
         light: 0,
+        written: true,
     };
     let mut at = 0;
     while at < records.len() {
         let end = end_of(records, at);
         seen = with_record(image, records, &records[at..end], seen);
+        if !seen.written {
+            return seen;
+        }
         at = end;
     }
     seen
 }
 
-// How many there are of each, and how many partitions are short.
-fn say_counts(image: &[u8], seen: Seen) {
-    say_of(b"brokers: ", seen.brokers);
-    say_of(b", topics: ", seen.topics);
-    say_of(b", partitions: ", seen.partitions);
+// How many partitions are short.
+fn say_short(image: &[u8]) -> bool {
     match lookup::short_count(image) {
         Value::Is(n) => say_of(b", with fewer in-sync replicas than replicas: ", n),
-        Value::Refused(number) => {}
+        Value::Refused(number) => true,
     }
-    say(b"\n");
+}
+
+// How many there are of each, and how many partitions are short.
+fn say_counts(image: &[u8], seen: Seen) -> bool {
+    say_of(b"brokers: ", seen.brokers)
+        && say_of(b", topics: ", seen.topics)
+        && say_of(b", partitions: ", seen.partitions)
+        && say_short(image)
+        && say(b"\n")
 }
 
 // How much of the capacity is used: the header's length weighs as 64 more, and producer ids do not.
-fn say_weight(image: &[u8], light: usize) {
+fn say_weight(image: &[u8], light: usize) -> bool {
     if image.len() < header::HEAD_SIZE {
-        return;
+        return true;
     }
     let used = header::used_in(image) + 64;
-    if light <= used {
-        say_of(b"weight: ", (used - light) as u64);
-        say_of(b" of ", image.len() as u64);
-        say(b"\n");
+    if used < light {
+        return true;
     }
+    say_of(b"weight: ", (used - light) as u64) && say_of(b" of ", image.len() as u64) && say(b"\n")
 }
 
 // What an image holds.
-pub fn say_all(image: &[u8], out: &mut [u8]) {
+pub fn say_all(image: &[u8], out: &mut [u8]) -> bool {
     let n = take_snapshot(image, out);
     let seen = say_entries(image, &out[..n]);
-    say_counts(image, seen);
-    say_weight(image, seen.light);
+    seen.written && say_counts(image, seen) && say_weight(image, seen.light)
 }

@@ -1,4 +1,4 @@
-// What the program `inspect` says of images: what exists in one, and where two part.
+// What the program `inspect` says to exist in an image.
 pub mod exists;
-pub mod ids;
-pub mod snapshots;
+mod quotas;
+mod topics;

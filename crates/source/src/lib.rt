@@ -14,11 +14,13 @@ const FAR: u64 = 0x7fff_ffff_ffff_ffff;
 const PROGRESS: u64 = 100000;
 
 // The window's bytes from `at` to `end` are still to be taken; the first of them is the file's byte `place`. `more`: the file may have more.
+// `failed`: a read failed, and nothing is to be taken any more.
 pub struct Source {
     pub at: usize,
     pub end: usize,
     pub place: u64,
     pub more: bool,
+    pub failed: bool,
 }
 
 // Before the file's first byte.
@@ -30,6 +32,7 @@ pub fn start() -> Source
         end: 0,
         place: 0,
         more: true,
+        failed: false,
     }
 }
 
@@ -44,6 +47,46 @@ fn slide(window: &mut [u8], at: usize, end: usize)
     }
 }
 
+// No more bytes come: the file ended, or could not be read. Of a file that could not, nothing more is taken.
+fn ended(end: usize, place: u64, failed: bool) -> Source
+    ensures { λ r. ⌜ (r .at ≡ 0) × (r .end ≤ end) ⌝ }
+{
+    let mut left = end;
+    if failed {
+        left = 0;
+    }
+    Source {
+        at: 0,
+        end: left,
+        place,
+        more: false,
+        failed,
+    }
+}
+
+// Reads behind the window's first bytes until a whole record is there, the file ends or a read fails: what C's read answers is then negative.
+fn fill(fd: i32, window: &mut [u8], left: usize, place: u64) -> Source
+    requires { ⌜ left ≤ length (now window) ⌝ }
+    ensures { λ r. ⌜ (r .at ≤ r .end) × (r .end ≤ length (now (window .entry))) ⌝ }
+{
+    let mut end = left;
+    while end < RECORD {
+        let got = libc::read(fd, &mut window[end..]);
+        let n = io::count(got, &window[end..]);
+        if n == 0 {
+            return ended(end, place, got < 0);
+        }
+        end += n;
+    }
+    Source {
+        at: 0,
+        end,
+        place,
+        more: true,
+        failed: false,
+    }
+}
+
 // Fills the window where it may not have a whole record.
 pub fn refill(fd: i32, window: &mut [u8], source: Source) -> Source
     requires { ⌜ (source .at ≤ source .end) × (source .end ≤ length (now window)) ⌝ }
@@ -54,13 +97,7 @@ pub fn refill(fd: i32, window: &mut [u8], source: Source) -> Source
         return source;
     }
     slide(window, source.at, source.end);
-    let got = io::read_full(fd, &mut window[left..]);
-    Source {
-        at: 0,
-        end: left + got,
-        place: source.place,
-        more: 0 < got,
-    }
+    fill(fd, window, left, source.place)
 }
 
 // The source after so many bytes more are taken.
@@ -77,6 +114,7 @@ pub fn passed(source: Source, n: usize) -> Source
         end: source.end,
         place,
         more: source.more,
+        failed: source.failed,
     }
 }
 

@@ -36,14 +36,14 @@ fn line_start(lines: &[u8], number: u8) -> usize
 }
 
 // The line of a number.
-fn say_line(lines: &[u8], number: u8) {
+fn say_line(lines: &[u8], number: u8) -> bool {
     let at = line_start(lines, number);
     let end = line_end(lines, at);
-    say(&lines[at..end]);
+    say(&lines[at..end])
 }
 
 // The name of a kind, as the Rust has it.
-pub fn say_kind(kind: u8) {
+pub fn say_kind(kind: u8) -> bool {
     say_line(
         b"no kind\n\
         Topic\n\
@@ -73,11 +73,11 @@ pub fn say_kind(kind: u8) {
         UnregisterController\n\
         no kind",
         kind,
-    );
+    )
 }
 
 // What a number says.
-pub fn say_verdict(number: u8) {
+pub fn say_verdict(number: u8) -> bool {
     say_line(
         b"accepted\n\
         no image, or no capacity for one\n\
@@ -101,5 +101,5 @@ pub fn say_verdict(number: u8) {
         the output is too short\n\
         no verdict",
         number,
-    );
+    )
 }

@@ -5,7 +5,10 @@
 use std::path::Path;
 use std::{env, fs};
 
-use krabka_metadata::{MetadataRecord, NodeId, PartitionRecord, PatternType};
+use krabka_metadata::{
+    ClientQuotaRecord, LeaderEpoch, MetadataRecord, NodeId, PartitionRecord, PatternType,
+    QuotaEntity,
+};
 use oracle::facts::build::{
     broker, broker_config, delete_topic, features_epoch, freeze, partition, topic,
 };
@@ -24,6 +27,7 @@ fn main() {
     write("damaged.records", &damaged(&plan));
     write("unmet.records", &encoded(&unmet()));
     write("empty.records", &[]);
+    write("quotas.records", &encoded(&[leaders(), quotas()].concat()));
 }
 
 fn encoded(records: &[MetadataRecord]) -> Vec<u8> {
@@ -52,6 +56,58 @@ fn unmet() -> Vec<MetadataRecord> {
         topic("plan-b", 7, 9, 2),
         topic("plan-a", 7, 1, 3),
         features_epoch(-5),
+    ]
+}
+
+/// A topic with leaders at epochs of both signs.
+fn leaders() -> Vec<MetadataRecord> {
+    let led = |number, leader, epoch| {
+        MetadataRecord::V1Partition(PartitionRecord {
+            leader: NodeId(leader),
+            leader_epoch: LeaderEpoch(epoch),
+            ..partition("plan-0042", number, &BROKERS)
+        })
+    };
+    vec![
+        topic("plan-0042", 42, 2, 3),
+        led(0, 3, i32::MAX),
+        led(1, u64::MAX, i32::MIN),
+    ]
+}
+
+fn quota(entities: &[(&str, Option<&str>)], key: &str, value: Option<f64>) -> MetadataRecord {
+    let entity = |(entity_type, entity_name): &(&str, Option<&str>)| QuotaEntity {
+        entity_type: entity_type.to_string(),
+        entity_name: entity_name.map(str::to_owned),
+    };
+    MetadataRecord::V1ClientQuota(ClientQuotaRecord {
+        entity: entities.iter().map(entity).collect(),
+        config_key: key.to_owned(),
+        config_value: value,
+    })
+}
+
+/// Quotas of one entity and of two, with and without a name: whole values to
+/// both ends of what the tool shows as such, values past them, with a fraction,
+/// of zero below, and of no number; and one that is removed again.
+fn quotas() -> Vec<MetadataRecord> {
+    const WHOLE: f64 = 9_007_199_254_740_992.0;
+    let anna = [("client-id", None), ("user", Some("anna"))];
+    const RATE: &str = "connection_creation_rate";
+    let none = f64::from_bits(0xfff0_0000_0000_0001);
+    vec![
+        quota(&anna, "producer_byte_rate", Some(1_048_576.0)),
+        quota(&anna, "consumer_byte_rate", Some(0.0)),
+        quota(&[("user", None)], "producer_byte_rate", Some(WHOLE)),
+        quota(&[("user", None)], "consumer_byte_rate", Some(-WHOLE)),
+        quota(&[("user", None)], "request_percentage", Some(WHOLE + 2.0)),
+        quota(&[("user", Some("a\nb"))], "request_percentage", Some(12.5)),
+        quota(&[("user", Some(""))], "request_percentage", Some(-0.0)),
+        quota(&[("ip", Some("10.0.0.7"))], RATE, Some(none)),
+        quota(&[("ip", Some("10.0.0.8"))], RATE, Some(f64::INFINITY)),
+        quota(&[("ip", Some("10.0.0.9"))], RATE, Some(5.0)),
+        quota(&[("ip", Some("10.0.0.9"))], RATE, None),
+        quota(&[], "producer_byte_rate", Some(1.0)),
     ]
 }
 

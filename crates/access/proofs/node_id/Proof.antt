@@ -1,8 +1,20 @@
--- `access::node_id` meets its contract, by whether there is a number.
+-- `access::node_id` meets its contract, by the kind and by whether there is a number.
 use borrow.Author.Needs.{needs}
-use Rattle.access.proofs.Named.{node-is, node-missing}
+use Rattle.access.proofs.Named.{node-empty, node-none, node-is, node-missing}
 use Rattle.access.proofs.node_id.Statement.{statement}
 use Rattle.access.proofs.node_id.Tie as tie
+
+returns : tie.Need-returns
+returns c = node-empty _ (c .if1 .taken)
+
+shared-slice-read-node-tag : tie.Need-shared-slice-read-node-tag
+shared-slice-read-node-tag c = search needs
+
+node-tag-requires : tie.Need-node-tag-requires
+node-tag-requires c κs = search needs
+
+returns-2 : tie.Need-returns-2
+returns-2 c = node-none _ _ (c .before .node-tag .ensures) (c .if2 .taken)
 
 number-of-requires : tie.Need-number-of-requires
 number-of-requires c κs = search needs
@@ -13,11 +25,28 @@ enum-known-n c = search needs
 enum-told : tie.Need-enum-told
 enum-told c = search needs
 
-returns : tie.Need-returns
-returns c = node-is _ _ (c .before .before .before .number-of .ensures .0) (c .before .n .given .1)
+returns-3 : tie.Need-returns-3
+returns-3 c =
+    let counted = c .before .before .before in
+    let asked = counted .before in
+    node-is _ _ (asked .before .node-tag .ensures) (asked .if2 .left) (counted .number-of .ensures .0) (c .before .n .given .1)
 
-returns-2 : tie.Need-returns-2
-returns-2 c = node-missing _ _ (c .before .before .number-of .ensures .0) (c .enum-told .given .1)
+returns-4 : tie.Need-returns-4
+returns-4 c =
+    let counted = c .before .before in
+    let asked = counted .before in
+    node-missing _ _ (asked .before .node-tag .ensures) (asked .if2 .left) (counted .number-of .ensures .0) (c .enum-told .given .1)
 
 pub node-id-spec : {M : Type 1} → statement M
-node-id-spec = tie.close (tie.spec number-of-requires enum-known-n enum-told returns returns-2)
+node-id-spec =
+    tie.close
+    (tie.spec
+    returns
+    shared-slice-read-node-tag
+    node-tag-requires
+    returns-2
+    number-of-requires
+    enum-known-n
+    enum-told
+    returns-3
+    returns-4)

@@ -3,6 +3,7 @@ use native.Mathlib.Omega.{arith}
 use borrow.Author.Needs.{needs}
 use Rattle.fields.proofs.Took.{within-part}
 use Rattle.access.specs.Access.{numbered, Below}
+use Rattle.access.proofs.Body.{field-held}
 use Rattle.access.proofs.Values.{number-missing, number-part, number-other}
 use Rattle.access.proofs.number_of.Statement.{statement}
 use Rattle.access.proofs.number_of.Tie as tie
@@ -16,12 +17,12 @@ enum-known-start c = search needs
 returns : tie.Need-returns
 unfolding numbered Below
 returns c =
-    let f = c .before .before .before .before .field-of .ensures in
+    let f = field-held _ _ (c .before .before .before .before .field-of .ensures) in
     (number-other _ _ _ (f .0) (c .before .before .start .given .1) (f .1) (c .if1 .taken), tt)
 
 get-requires : tie.Need-get-requires
 get-requires c κs =
-    let f = c .before .before .before .before .field-of .ensures in
+    let f = field-held _ _ (c .before .before .before .before .field-of .ensures) in
     let w = within-part (c .before .before .start .given .1) (f .1) in
     (c .before .before .before .before .before .before .pre, omega arith)
 
@@ -31,13 +32,13 @@ enum-told c = search needs
 returns-2 : tie.Need-returns-2
 unfolding numbered Below
 returns-2 c =
-    let f = c .before .before .before .before .before .field-of .ensures in
+    let f = field-held _ _ (c .before .before .before .before .before .field-of .ensures) in
     let g = c .get .ensures in
     (number-part _ _ _ (f .0) (c .before .before .before .start .given .1) (f .1) _ (c .before .if1 .left) (g .0), g .1)
 
 returns-3 : tie.Need-returns-3
 unfolding numbered Below
-returns-3 c = (number-missing _ _ _ (c .before .before .field-of .ensures .0) (c .enum-told .given .1), tt)
+returns-3 c = (number-missing _ _ _ (field-held _ _ (c .before .before .field-of .ensures) .0) (c .enum-told .given .1), tt)
 
 pub number-of-spec : {M : Type 1} → statement M
 number-of-spec =

@@ -6,40 +6,25 @@ use Rattle.words.proofs.say_name.Statement.{statement}
 use Rattle.words.proofs.say_name.Tie as tie
 
 abbrev Inv-loop : tie.InvT-loop
-Inv-loop name i₀ t4 i = i ≤ length name
+Inv-loop name i₀ i = i ≤ length name
 
 abbrev μ-loop : tie.MeasureT-loop
-μ-loop name i₀ t4 i = length name - i
+μ-loop name i₀ i = length name - i
 
 loop-holds : tie.Need-loop-holds Inv-loop μ-loop
 loop-holds c = search needs
 
-add-end : tie.Need-add-end Inv-loop μ-loop
-add-end c = search needs
+shared-slice-read-say-byte : tie.Need-shared-slice-read-say-byte Inv-loop μ-loop
+shared-slice-read-say-byte c = search needs
 
-shared-slice-read-if1 : tie.Need-shared-slice-read-if1 Inv-loop μ-loop
-shared-slice-read-if1 c = search needs
+say-byte-requires : tie.Need-say-byte-requires Inv-loop μ-loop
+say-byte-requires c κs = search needs
 
-shared-slice-read-if2 : tie.Need-shared-slice-read-if2 Inv-loop μ-loop
-shared-slice-read-if2 c = search needs
+returns : tie.Need-returns Inv-loop μ-loop
+returns c = search needs
 
-slice-aggregate-say : tie.Need-slice-aggregate-say Inv-loop μ-loop
-slice-aggregate-say c = search needs
-
-say-requires : tie.Need-say-requires Inv-loop μ-loop
-say-requires c κs = search needs
-
-sub-say : tie.Need-sub-say Inv-loop μ-loop
-sub-say c = search needs
-
-part-say-start : tie.Need-part-say-start Inv-loop μ-loop
-part-say-start c = search needs
-
-part-say-end : tie.Need-part-say-end Inv-loop μ-loop
-part-say-end c = search needs
-
-say-requires-2 : tie.Need-say-requires-2 Inv-loop μ-loop
-say-requires-2 c κs = search needs
+add-i : tie.Need-add-i Inv-loop μ-loop
+add-i c = search needs
 
 loop-less : tie.Need-loop-less Inv-loop μ-loop
 loop-less c = search needs
@@ -47,14 +32,8 @@ loop-less c = search needs
 loop-again : tie.Need-loop-again Inv-loop μ-loop
 loop-again c = search needs
 
-loop-less-2 : tie.Need-loop-less-2 Inv-loop μ-loop
-loop-less-2 c = search needs
-
-loop-again-2 : tie.Need-loop-again-2 Inv-loop μ-loop
-loop-again-2 c = search needs
-
-returns : tie.Need-returns Inv-loop μ-loop
-returns c = search needs
+returns-2 : tie.Need-returns-2 Inv-loop μ-loop
+returns-2 c = search needs
 
 pub say-name-spec : {M : Type 1} → statement M
 say-name-spec =
@@ -63,17 +42,10 @@ say-name-spec =
     Inv-loop
     μ-loop
     loop-holds
-    add-end
-    shared-slice-read-if1
-    shared-slice-read-if2
-    slice-aggregate-say
-    say-requires
-    sub-say
-    part-say-start
-    part-say-end
-    say-requires-2
+    shared-slice-read-say-byte
+    say-byte-requires
+    returns
+    add-i
     loop-less
     loop-again
-    loop-less-2
-    loop-again-2
-    returns)
+    returns-2)

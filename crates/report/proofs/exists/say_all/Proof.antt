@@ -30,6 +30,12 @@ same-length c = search needs
 returns : tie.Need-returns
 returns c = search needs
 
+same-length-2 : tie.Need-same-length-2
+same-length-2 c = search needs
+
+returns-2 : tie.Need-returns-2
+returns-2 c = search needs
+
 pub say-all-spec : {M : Type 1} → statement M
 say-all-spec =
     tie.close
@@ -41,4 +47,6 @@ say-all-spec =
     say-counts-requires
     say-weight-requires
     same-length
-    returns)
+    returns
+    same-length-2
+    returns-2)

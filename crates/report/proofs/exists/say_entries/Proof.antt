@@ -29,14 +29,17 @@ part-with-record-end c = search needs
 with-record-requires : tie.Need-with-record-requires Inv-loop μ-loop
 with-record-requires c κs = search needs
 
+returns : tie.Need-returns Inv-loop μ-loop
+returns c = search needs
+
 loop-less : tie.Need-loop-less Inv-loop μ-loop
 loop-less c = search needs
 
 loop-again : tie.Need-loop-again Inv-loop μ-loop
 loop-again c = search needs
 
-returns : tie.Need-returns Inv-loop μ-loop
-returns c = search needs
+returns-2 : tie.Need-returns-2 Inv-loop μ-loop
+returns-2 c = search needs
 
 pub say-entries-spec : {M : Type 1} → statement M
 say-entries-spec =
@@ -50,6 +53,7 @@ say-entries-spec =
     part-with-record-start
     part-with-record-end
     with-record-requires
+    returns
     loop-less
     loop-again
-    returns)
+    returns-2)

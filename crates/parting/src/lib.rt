@@ -1,0 +1,3 @@
+// Where two images part: in their snapshots, and in what the topics' ids name.
+pub mod ids;
+pub mod snapshots;
