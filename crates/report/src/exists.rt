@@ -40,16 +40,16 @@ fn say_freeze(rec: &[u8]) -> bool {
 }
 
 // A node, by whose configs a throttle is set.
-fn say_node(node: u64) -> bool {
-    if node == DEFAULT {
+fn say_node(node: NodeId) -> bool {
+    if node.0 == DEFAULT {
         return say(b"every other broker");
     }
-    say_of(b"broker ", node)
+    say_of(b"broker ", node.0)
 }
 
 // A throttle of a node, where one is set.
-fn say_throttle(image: &[u8], node: u64, kind: u8, words: &[u8]) -> bool {
-    match lookup::throttle(image, NodeId(node), kind) {
+fn say_throttle(image: &[u8], node: NodeId, kind: u8, words: &[u8]) -> bool {
+    match lookup::throttle(image, node, kind) {
         Rated::Rate(n) => say_node(node) && say_of(words, n) && say(b" bytes a second\n"),
         Rated::None => true,
         Rated::Refused(number) => true,
@@ -57,7 +57,7 @@ fn say_throttle(image: &[u8], node: u64, kind: u8, words: &[u8]) -> bool {
 }
 
 // The throttles of a node.
-fn say_throttles(image: &[u8], node: u64) -> bool {
+fn say_throttles(image: &[u8], node: NodeId) -> bool {
     say_throttle(image, node, 0, b", leader's throttle: ")
         && say_throttle(image, node, 1, b", follower's throttle: ")
         && say_throttle(image, node, 2, b", throttle between log directories: ")
@@ -72,7 +72,7 @@ fn with_config(image: &[u8], rec: &[u8], seen: Seen) -> Seen {
     let mut next = seen;
     next.configured = true;
     next.node = node;
-    next.written = say_throttles(image, node);
+    next.written = say_throttles(image, NodeId(node));
     next
 }
 
