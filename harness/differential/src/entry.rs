@@ -1,4 +1,4 @@
-//! The entry points of crates/exports. Their contracts ask nothing, so that
+//! The entry points of crates/jeghatuf. Their contracts ask nothing, so that
 //! every call is safe.
 
 #[cfg(feature = "images")]

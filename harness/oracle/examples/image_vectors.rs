@@ -1,8 +1,8 @@
-//! Writes the input and the expected output of the program `image_vectors`: operations over images, and what the harness says of them. Open's
+//! Writes the input and the expected output of the program `test_image`: operations over images, and what the harness says of them. Open's
 //! answers are the harness's own layout of a fresh image, the exact test's the named cases' fixed ones, the lookups' the reference's. From the
 //! repository's root:
 //!
-//!     cargo run --manifest-path harness/Cargo.toml --example image_vectors -- crates/image_vectors
+//!     cargo run --manifest-path harness/Cargo.toml --example image_vectors -- crates/test_image
 
 use std::fmt::Write;
 use std::{env, fs};

@@ -1,7 +1,7 @@
-//! Writes the input and the expected output of the program `read_vectors`: records, good and damaged, and what the harness's own reader says of
+//! Writes the input and the expected output of the program `test_read`: records, good and damaged, and what the harness's own reader says of
 //! them. From the repository's root:
 //!
-//!     cargo run --manifest-path harness/Cargo.toml --example read_vectors -- crates/read_vectors
+//!     cargo run --manifest-path harness/Cargo.toml --example read_vectors -- crates/test_read
 
 use std::fmt::Write;
 use std::{env, fs};

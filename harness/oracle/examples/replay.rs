@@ -1,7 +1,7 @@
-//! Writes the stored input and the expected output of the program `replay`.
+//! Writes the stored input and the expected output of the program `test_replay`.
 //! From the repository's root:
 //!
-//!     cargo run --manifest-path harness/Cargo.toml --example replay -- crates/replay
+//!     cargo run --manifest-path harness/Cargo.toml --example replay -- crates/test_replay
 
 use std::{env, fs};
 

@@ -1,6 +1,6 @@
 //! Writes the samples of the program `inspect`, files of record bytes, into a folder. From the repository's root:
 //!
-//!     cargo run --manifest-path harness/Cargo.toml --example samples -- crates/inspect/data
+//!     cargo run --manifest-path harness/Cargo.toml --example samples -- crates/tool_inspect/data
 
 use std::path::Path;
 use std::{env, fs};

@@ -1,4 +1,4 @@
-//! The stored input of the program `crates/replay` and its expected output: 01's
+//! The stored input of the program `crates/test_replay` and its expected output: 01's
 //! cases that are checked by hand, then generated histories at several
 //! capacities, with cuts, snapshots, lookups and downgrades, and what the
 //! reference makes of them. Verdicts are the reference's `validate`, images its
