@@ -1,9 +1,7 @@
 //! Inputs drawn from a seed: records, good and damaged.
 
 use oracle::generate::{Generator, Knobs};
-use wire::{Run, damaged, encode};
-
-use crate::random::Random;
+use wire::{Random, Run, damaged, encode};
 
 /// The records of one generated history.
 const HISTORY: usize = 200;
@@ -20,7 +18,7 @@ pub struct Inputs {
 
 impl Inputs {
     pub fn new(seed: u64) -> Self {
-        let random = Random::new(seed);
+        let random = Random::beside(seed);
         Self {
             seed,
             random,
@@ -36,7 +34,7 @@ impl Inputs {
         for record in Generator::new(self.seed, knobs).history(HISTORY) {
             let mut bytes = encode(&record).expect("a kind that 01 has");
             for _ in 0..DAMAGED {
-                let next = damaged(&mut || self.random.next(), &bytes);
+                let next = damaged(&mut self.random, &bytes);
                 self.waiting.push(bytes);
                 bytes = next;
             }
@@ -67,7 +65,7 @@ impl Inputs {
         }
         let written = 3 + 3 * lists.tags.len() + lists.values.len();
         let room = (written + self.random.below(6)).saturating_sub(2);
-        lists.out = (0..room).map(|_| self.random.next() as u8).collect();
+        lists.out = self.random.bytes(room);
         lists
     }
 }

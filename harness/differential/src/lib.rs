@@ -11,7 +11,6 @@ pub mod histories;
 #[cfg(feature = "images")]
 pub mod images;
 mod inputs;
-mod random;
 pub mod timing;
 mod typical;
 

@@ -7,7 +7,7 @@ use std::fmt::Write;
 use std::{env, fs};
 
 use oracle::generate::{Generator, Knobs};
-use wire::{damaged, encode, read};
+use wire::{Random, damaged, encode, read};
 
 const SEED: u64 = 4;
 const GOOD: usize = 260;
@@ -36,13 +36,7 @@ fn main() {
 
 /// Generated records, each with a damaged copy, and inputs at the limits.
 fn inputs() -> Vec<Vec<u8>> {
-    let mut state = SEED;
-    let mut random = move || {
-        state = state
-            .wrapping_mul(6364136223846793005)
-            .wrapping_add(1442695040888963407);
-        state >> 11
-    };
+    let mut random = Random::beside(SEED);
     let knobs = Knobs {
         extreme: 2,
         ..Knobs::default()

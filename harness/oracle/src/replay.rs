@@ -56,13 +56,3 @@ pub fn stored() -> Stored {
     lines.check();
     lines.stored
 }
-
-fn random(seed: u64) -> impl FnMut() -> u64 {
-    let mut state = seed;
-    move || {
-        state = state
-            .wrapping_mul(6364136223846793005)
-            .wrapping_add(1442695040888963407);
-        state >> 11
-    }
-}

@@ -1,9 +1,10 @@
 //! The record bytes of docs/FORMAT.md: the shape table, a reader, and the
-//! reference's records to bytes and back.
+//! reference's records to bytes and back, damaged copies, and random numbers.
 
 mod damage;
 mod decode;
 mod encode;
+mod random;
 mod read;
 mod run;
 pub mod table;
@@ -12,6 +13,7 @@ mod write;
 pub use damage::damaged;
 pub use decode::decode;
 pub use encode::encode;
+pub use random::Random;
 pub use read::{HEADER, OVER_A_LIMIT, PAST_THE_END, UNKNOWN_KIND, WRONG_FIELD, read};
 pub use run::Run;
 pub use write::{TOO_SHORT, write};

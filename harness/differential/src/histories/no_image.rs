@@ -4,12 +4,11 @@
 use oracle::cases::cases;
 use oracle::exact::is_image;
 use oracle::facts::build::{delete_topic, feature_level, topic};
-use wire::encode;
+use wire::{Random, encode};
 
 use super::course::Course;
 use super::{expect, told};
 use crate::images::{Compared, Tally, shown};
-use crate::random::Random;
 use crate::{apply, validate};
 
 /// The buffer is no image.

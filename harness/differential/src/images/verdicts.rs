@@ -2,11 +2,10 @@
 
 use oracle::generate::{Generator, Knobs};
 use oracle::verdict::verdict;
-use wire::{encode, read};
+use wire::{Random, encode, read};
 
 use super::subject::Subject;
 use super::{Compared, Tally};
-use crate::random::Random;
 use crate::validate;
 
 /// The records that are validated against each image.
@@ -21,7 +20,7 @@ pub fn compare(tally: &mut Tally, subject: &Subject, image: &[u8], seed: u64) ->
         ..Knobs::default()
     };
     let mut generator = Generator::new(seed, knobs);
-    let mut random = Random::new(seed);
+    let mut random = Random::beside(seed);
     for _ in 0..RECORDS {
         let record = generator.record(&subject.image);
         let expected = verdict(&subject.image, &record);

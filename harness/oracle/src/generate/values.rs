@@ -183,7 +183,7 @@ impl Generator {
 
     pub(super) fn signature(&mut self) -> Vec<u8> {
         let count = self.length(512);
-        (0..count).map(|_| self.random.bits() as u8).collect()
+        self.random.bytes(count)
     }
 
     pub(super) fn quota(&mut self) -> f64 {

@@ -4,13 +4,13 @@ use std::collections::BTreeSet;
 use std::fmt::Write;
 
 use krabka_metadata::{MetadataRecord, NodeId, ThrottleKind};
-use wire::{damaged, encode};
+use wire::{Random, damaged, encode};
 
 use super::plan::Plan;
 use super::run::{Run, bytes, written};
 use super::{
     CUT, DOWNGRADE, FREEZE, NO_IMAGE, NO_ROOM, OFFSET_LEAVES, OPEN, PARTITION, RESTORE, SNAPSHOT,
-    STEP, Stored, THROTTLE, WRONG, random,
+    STEP, Stored, THROTTLE, WRONG,
 };
 use crate::downgrade::downgrade;
 use crate::facts::build::broker_config;
@@ -170,7 +170,7 @@ impl Lines {
             return;
         }
         let snapshot = run.snapshot();
-        let mut random = random(plan.number);
+        let mut random = Random::beside(plan.number);
         let cut = snapshot[..snapshot.len() * 2 / 3].to_vec();
         let any = damaged(&mut random, &snapshot);
         for input in [inputs.concat(), cut, any] {

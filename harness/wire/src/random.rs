@@ -1,4 +1,4 @@
-//! A seeded sequence of numbers: splitmix64.
+//! Numbers drawn from a seed, for all that the harness draws: splitmix64.
 
 #[derive(Debug, Clone)]
 pub struct Random {
@@ -10,6 +10,12 @@ impl Random {
         Self { state: seed }
     }
 
+    /// Another sequence of the seed, for what is drawn beside a history: two
+    /// equal sequences would go in step.
+    pub fn beside(seed: u64) -> Self {
+        Self::new(!seed)
+    }
+
     pub fn bits(&mut self) -> u64 {
         self.state = self.state.wrapping_add(0x9E37_79B9_7F4A_7C15);
         let mut z = self.state;
@@ -18,9 +24,17 @@ impl Random {
         z ^ (z >> 31)
     }
 
-    /// A number below `end`, which is not 0.
+    pub fn byte(&mut self) -> u8 {
+        self.bits() as u8
+    }
+
+    pub fn bytes(&mut self, count: usize) -> Vec<u8> {
+        (0..count).map(|_| self.byte()).collect()
+    }
+
+    /// A number below `end`, 0 where there is none.
     pub fn below(&mut self, end: usize) -> usize {
-        (self.bits() % end as u64) as usize
+        (self.bits() % end.max(1) as u64) as usize
     }
 
     pub fn percent(&mut self, percent: u64) -> bool {
