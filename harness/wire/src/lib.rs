@@ -1,6 +1,7 @@
 //! The record bytes of docs/FORMAT.md: the shape table, a reader, and the
 //! reference's records to bytes and back, damaged copies, and random numbers.
 
+pub mod choices;
 mod damage;
 mod decode;
 mod encode;

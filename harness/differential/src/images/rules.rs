@@ -3,9 +3,10 @@
 
 use std::collections::BTreeSet;
 
-use krabka_metadata::{MetadataImage, MetadataRecord, NodeId, ThrottleKind};
+use krabka_metadata::{MetadataImage, MetadataRecord, NodeId};
 use oracle::downgrade::downgrade as listing;
 use oracle::observe::Observed;
+use wire::choices::THROTTLE_KINDS;
 use wire::encode;
 
 use super::exact::shown;
@@ -18,11 +19,6 @@ use crate::{downgrade, freeze, snapshot, throttle};
 
 /// A kind of throttle that there is not.
 const NO_KIND: u8 = 4;
-const KINDS: [ThrottleKind; 3] = [
-    ThrottleKind::Leader,
-    ThrottleKind::Follower,
-    ThrottleKind::AlterLogDirs,
-];
 /// Levels at which the listing changes, those beside them, and the ends.
 pub const LEVELS: [i16; 10] = [i16::MIN, -1, 0, 16, 17, 18, 29, 30, 31, i16::MAX];
 
@@ -82,7 +78,7 @@ pub fn throttled_nodes(image: &MetadataImage, observed: &Observed) -> BTreeSet<u
 
 fn compare_throttles(tally: &mut Tally, subject: &Subject, image: &[u8]) -> Compared {
     for node in throttled_nodes(&subject.image, &subject.observed) {
-        for (number, kind) in (0..).zip(KINDS) {
+        for (number, kind) in (0..).zip(THROTTLE_KINDS) {
             let rate = subject.image.broker_throttle_rate(NodeId(node), kind);
             let rate = rate.map(|rate| rate.bytes_per_sec);
             let what = match rate {

@@ -2,8 +2,9 @@
 
 use std::collections::BTreeMap;
 
-use krabka_metadata::{BreakGlassApproval, BrokerEndpoint, ListenerProtocol, NodeId, QuotaEntity};
+use krabka_metadata::{BreakGlassApproval, BrokerEndpoint, NodeId, QuotaEntity};
 use uuid::Uuid;
+use wire::choices::PROTOCOLS;
 
 use super::Generator;
 
@@ -234,12 +235,7 @@ impl Generator {
             name: self.text(),
             host: self.text(),
             port: self.u16(),
-            protocol: self.random.pick(&[
-                ListenerProtocol::Plaintext,
-                ListenerProtocol::Ssl,
-                ListenerProtocol::SaslPlaintext,
-                ListenerProtocol::SaslSsl,
-            ]),
+            protocol: self.random.pick(&PROTOCOLS),
         }
     }
 

@@ -3,7 +3,8 @@
 use std::collections::BTreeSet;
 use std::fmt::Write;
 
-use krabka_metadata::{MetadataRecord, NodeId, ThrottleKind};
+use krabka_metadata::{MetadataRecord, NodeId};
+use wire::choices::THROTTLE_KINDS;
 use wire::{Random, damaged, encode};
 
 use super::plan::Plan;
@@ -17,11 +18,6 @@ use crate::facts::build::broker_config;
 use crate::image::FIXED_ROOM;
 use crate::verdict::ACCEPTED;
 
-const KINDS: [ThrottleKind; 3] = [
-    ThrottleKind::Leader,
-    ThrottleKind::Follower,
-    ThrottleKind::AlterLogDirs,
-];
 const LEADER: &str = "leader.replication.throttled.rate";
 const LEVELS: [i16; 4] = [-1, 16, 29, 30];
 /// After how many steps questions come.
@@ -84,7 +80,7 @@ impl Lines {
                 encode(&broker_config(1, LEADER, Some(value))).expect("a kind that 01 has");
             self.step(&mut run, STEP, &record);
             let node = NodeId(1);
-            let said = run.image.broker_throttle_rate(node, KINDS[0]);
+            let said = run.image.broker_throttle_rate(node, THROTTLE_KINDS[0]);
             assert_eq!(said.map(|said| said.bytes_per_sec), rate);
             self.throttle(&run, node, 0);
         }
@@ -140,7 +136,7 @@ impl Lines {
     }
 
     fn throttle(&mut self, run: &Run, node: NodeId, kind: u8) {
-        let rate = match KINDS.get(usize::from(kind)) {
+        let rate = match THROTTLE_KINDS.get(usize::from(kind)) {
             _ if !run.is_image() => format!(" {NO_IMAGE}"),
             None => format!(" {WRONG}"),
             Some(kind) => match run.image.broker_throttle_rate(node, *kind) {
