@@ -5,12 +5,9 @@
 use std::path::Path;
 use std::{env, fs};
 
-use krabka_metadata::{
-    ClientQuotaRecord, LeaderEpoch, MetadataRecord, NodeId, PartitionRecord, PatternType,
-    QuotaEntity,
-};
+use krabka_metadata::{LeaderEpoch, MetadataRecord, NodeId, PartitionRecord, PatternType};
 use oracle::facts::build::{
-    broker, broker_config, delete_topic, features_epoch, freeze, partition, topic,
+    broker, broker_config, delete_topic, features_epoch, freeze, partition, quota, topic,
 };
 use wire::encode;
 
@@ -73,18 +70,6 @@ fn leaders() -> Vec<MetadataRecord> {
         led(0, 3, i32::MAX),
         led(1, u64::MAX, i32::MIN),
     ]
-}
-
-fn quota(entities: &[(&str, Option<&str>)], key: &str, value: Option<f64>) -> MetadataRecord {
-    let entity = |(entity_type, entity_name): &(&str, Option<&str>)| QuotaEntity {
-        entity_type: entity_type.to_string(),
-        entity_name: entity_name.map(str::to_owned),
-    };
-    MetadataRecord::V1ClientQuota(ClientQuotaRecord {
-        entity: entities.iter().map(entity).collect(),
-        config_key: key.to_owned(),
-        config_value: value,
-    })
 }
 
 /// Quotas of one entity and of two, with and without a name: whole values to

@@ -2,9 +2,9 @@
 
 use krabka_metadata::MetadataRecord;
 
-use super::samples::{all_kinds, quota};
+use super::samples::all_kinds;
 use super::{Cases, applied, bytes};
-use crate::facts::build::{broker_config, feature_level};
+use crate::facts::build::{broker_config, feature_level, quota};
 
 pub fn add(cases: &mut Cases) {
     beside_members(cases);

@@ -2,10 +2,11 @@
 
 use krabka_metadata::{MetadataRecord, PatternType};
 
-use super::samples::{all_kinds, quota};
+use super::samples::all_kinds;
 use super::{Cases, applied, bytes};
 use crate::facts::build::{
-    broker, broker_config, feature_level, freeze, partition_record, recovering, topic,
+    broker, broker_config, controller, feature_level, freeze, partition_record, quota, recovering,
+    topic,
 };
 use crate::image::topic_entry;
 
@@ -55,7 +56,13 @@ fn pairs() -> Vec<(&'static str, [MetadataRecord; 2])> {
     vec![
         ("nodes are unsigned", [node(1), node(1 << 63)]),
         ("nodes by value", [node(2), node(10)]),
-        ("kind 17 after 3", [node(9), super::samples::controller(1)]),
+        (
+            "kind 17 after 3",
+            [
+                node(9),
+                MetadataRecord::V1ControllerRegistration(controller(1, 1)),
+            ],
+        ),
         (
             "node, then name",
             [

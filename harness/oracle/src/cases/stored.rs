@@ -1,16 +1,16 @@
 //! Entries such as Apply stores, and such as it does not.
 
 use krabka_metadata::{
-    BrokerRegistrationChangeRecord, FencingChange, KRaftVersionRecord, LeaderRecoveryState,
-    MetadataRecord, NodeId, PartitionRecoveryRecord, PartitionUpdateRecord, PatternType,
-    UnregisterBrokerRecord, UnregisterControllerRecord,
+    BrokerRegistrationChangeRecord, FencingChange, KRaftVersionRecord, MetadataRecord, NodeId,
+    PartitionUpdateRecord, PatternType, UnregisterBrokerRecord, UnregisterControllerRecord,
 };
 
-use super::samples::{all_kinds, group_config, metrics_config, quota};
+use super::samples::all_kinds;
 use super::{Cases, applied, bytes};
 use crate::facts::build::{
-    delete_topic, dir_assignment, elr, feature_level, features_epoch, freeze, id, offset_advance,
-    partition, producer_ids, recovering, thaw, topic_config,
+    delete_topic, dir_assignment, elr, feature_level, features_epoch, freeze, group_config, id,
+    metrics_config, offset_advance, partition, producer_ids, quota, recovered, recovering, thaw,
+    topic_config,
 };
 
 pub fn add(cases: &mut Cases) {
@@ -65,7 +65,7 @@ fn bad() -> Vec<(&'static str, MetadataRecord)> {
     let types = [("user", None), ("ip", None)];
     vec![
         ("level 0", feature_level("a", 0)),
-        ("Recovered", recovered()),
+        ("Recovered", recovered("p", 0)),
         ("thawed freeze", thaw("p", PatternType::Literal)),
         ("two empty ELR lists", elr("p", 0, &[], &[])),
         ("empty topic config", topic_config("p", &[])),
@@ -77,14 +77,6 @@ fn bad() -> Vec<(&'static str, MetadataRecord)> {
             quota(&[("user", Some("a"))], "rate", None),
         ),
     ]
-}
-
-fn recovered() -> MetadataRecord {
-    MetadataRecord::V1PartitionRecovery(PartitionRecoveryRecord {
-        topic: "p".to_owned(),
-        partition: 0,
-        state: LeaderRecoveryState::Recovered,
-    })
 }
 
 /// Apply does not validate: what belongs to a topic may stand without one.

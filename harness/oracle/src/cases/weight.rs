@@ -2,9 +2,11 @@
 
 use krabka_metadata::MetadataRecord;
 
-use super::samples::{all_kinds, quota};
+use super::samples::all_kinds;
 use super::{Cases, applied};
-use crate::facts::build::{broker_config, feature_level, partition_record, producer_ids, topic};
+use crate::facts::build::{
+    broker_config, feature_level, partition_record, producer_ids, quota, topic,
+};
 use crate::layout::Layout;
 
 pub fn add(cases: &mut Cases) {
