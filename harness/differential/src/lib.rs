@@ -14,6 +14,6 @@ pub mod timing;
 mod typical;
 
 pub use entry::*;
-pub use inputs::{Inputs, Lists};
+pub use inputs::Inputs;
 pub use program::{Asked, Compared, Comparison, Help};
 pub use typical::typical;

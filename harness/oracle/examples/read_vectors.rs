@@ -3,35 +3,27 @@
 //!
 //!     cargo run --manifest-path harness/Cargo.toml --example read_vectors -- crates/test_read
 
-use std::fmt::Write;
-use std::{env, fs};
-
 use oracle::generate::{Generator, Knobs};
-use wire::{Random, damaged, encode, read};
+use oracle::stored::Stored;
+use wire::{Random, damaged, encoded, read};
 
 const SEED: u64 = 4;
 const GOOD: usize = 260;
 
+const HEAD: &str = "\
+# Records in hexadecimal, one to a line, good and damaged; made by harness/oracle/examples/read_vectors.rs
+";
+
 fn main() {
-    let folder = env::args().nth(1).expect("the program's folder");
-    let inputs = inputs();
-    let mut stdin = String::from(
-        "# Records in hexadecimal, one to a line, good and damaged; made by harness/oracle/examples/read_vectors.rs\n",
-    );
-    let mut stdout = String::new();
-    for input in &inputs {
-        for byte in input {
-            write!(stdin, "{byte:02x}").expect("a string takes it");
-        }
-        stdin.push('\n');
-        match read(input) {
-            Ok(used) => writeln!(stdout, "0 {used}"),
-            Err(number) => writeln!(stdout, "{number}"),
-        }
-        .expect("a string takes it");
+    let mut stored = Stored::new(HEAD);
+    for input in inputs() {
+        let answer = match read(&input) {
+            Ok(used) => format!("0 {used}"),
+            Err(number) => number.to_string(),
+        };
+        stored.line(&input, &answer);
     }
-    fs::write(format!("{folder}/stdin"), stdin).expect("the folder is writable");
-    fs::write(format!("{folder}/stdout"), stdout).expect("the folder is writable");
+    stored.write();
 }
 
 /// Generated records, each with a damaged copy, and inputs at the limits.
@@ -43,7 +35,7 @@ fn inputs() -> Vec<Vec<u8>> {
     };
     let mut inputs = edges();
     for record in Generator::new(SEED, knobs).history(GOOD) {
-        let good = encode(&record).expect("a kind that 01 has");
+        let good = encoded(&record);
         inputs.push(damaged(&mut random, &good));
         inputs.push(good);
     }

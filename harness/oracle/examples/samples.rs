@@ -9,7 +9,7 @@ use krabka_metadata::{LeaderEpoch, MetadataRecord, NodeId, PartitionRecord, Patt
 use oracle::facts::build::{
     broker, broker_config, delete_topic, features_epoch, freeze, partition, quota, topic,
 };
-use wire::encode;
+use wire::encoded_all;
 
 const BROKERS: [u64; 3] = [1, 2, 3];
 const THROTTLE: &str = "leader.replication.throttled.rate";
@@ -20,24 +20,20 @@ fn main() {
         fs::write(Path::new(&folder).join(name), bytes).expect("the folder is writable");
     };
     let plan = [registered(), first_plans(), rules(), second_plan()].concat();
-    write("plan.records", &encoded(&plan));
+    write("plan.records", &encoded_all(&plan));
     write("damaged.records", &damaged(&plan));
-    write("unmet.records", &encoded(&unmet()));
+    write("unmet.records", &encoded_all(&unmet()));
     write("empty.records", &[]);
-    write("quotas.records", &encoded(&[leaders(), quotas()].concat()));
-}
-
-fn encoded(records: &[MetadataRecord]) -> Vec<u8> {
-    let encoded = records.iter().map(encode);
-    encoded
-        .flat_map(|record| record.expect("a kind that 01 has"))
-        .collect()
+    write(
+        "quotas.records",
+        &encoded_all(&[leaders(), quotas()].concat()),
+    );
 }
 
 /// The sample with a wrong tag in its sixth record, and its last record cut.
 fn damaged(records: &[MetadataRecord]) -> Vec<u8> {
-    let mut bytes = encoded(records);
-    bytes[encoded(&records[..5]).len() + 3] = 9;
+    let mut bytes = encoded_all(records);
+    bytes[encoded_all(&records[..5]).len() + 3] = 9;
     bytes.truncate(bytes.len() - 5);
     bytes
 }

@@ -14,4 +14,5 @@ pub mod layout;
 pub mod observe;
 pub mod order;
 pub mod replay;
+pub mod stored;
 pub mod verdict;

@@ -47,6 +47,20 @@ pub fn encode(record: &MetadataRecord) -> Option<Vec<u8>> {
     Some(bytes)
 }
 
+/// The bytes of a record that has some.
+///
+/// # Panics
+///
+/// Where it has none.
+pub fn encoded(record: &MetadataRecord) -> Vec<u8> {
+    encode(record).expect("a kind that 01 has")
+}
+
+/// The records' bytes, back to back.
+pub fn encoded_all(records: &[MetadataRecord]) -> Vec<u8> {
+    records.iter().flat_map(encoded).collect()
+}
+
 /// Appends a kind or tag, the length and the bytes.
 fn put(out: &mut Vec<u8>, first: u8, bytes: &[u8]) {
     let length = u16::try_from(bytes.len()).expect("a length of at most two bytes");

@@ -4,7 +4,8 @@
 
 use std::process::ExitCode;
 
-use differential::{Asked, Compared, Comparison, Inputs, Lists};
+use differential::{Asked, Compared, Comparison, Inputs};
+use wire::Lists;
 
 const RECORDS: Comparison = Comparison {
     name: "compare_records",
@@ -25,7 +26,8 @@ fn main() -> ExitCode {
         for _ in 0..count {
             let input = inputs.draw();
             compare_read(&mut read, &input)?;
-            compare_write(&mut written, inputs.lists(&input))?;
+            let (lists, out) = inputs.lists(&input);
+            compare_write(&mut written, &lists, out)?;
         }
         let (read, written) = (told("Read", &read), told("Write", &written));
         Ok(format!("{count} inputs, all equal\n{read}{written}"))
@@ -48,23 +50,15 @@ fn compare_read(counts: &mut Counts, input: &[u8]) -> Compared {
     }
 }
 
-fn compare_write(counts: &mut Counts, lists: Lists) -> Compared {
-    let Lists {
-        kind,
-        tags,
-        lengths,
-        values,
-        out,
-    } = lists;
+fn compare_write(counts: &mut Counts, lists: &Lists, out: Vec<u8>) -> Compared {
     let (mut ours, mut theirs) = (out.clone(), out);
-    let answer = differential::write(kind, &tags, &lengths, &values, &mut ours);
-    let expected = wire::write(kind, &tags, &lengths, &values, &mut theirs);
+    let answer = differential::write(lists, &mut ours);
+    let expected = wire::write(lists, &mut theirs);
     count(counts, expected);
     match answer == expected && ours == theirs {
         true => Ok(()),
         false => Err(format!(
-            "Write says {answer:?}, not {expected:?}, or other bytes, \
-             of {kind} {tags:?} {lengths:?} {values:02x?}"
+            "Write says {answer:?}, not {expected:?}, or other bytes, of {lists:02x?}"
         )),
     }
 }

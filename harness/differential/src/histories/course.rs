@@ -1,10 +1,11 @@
 //! A history under way: the library's buffer beside the reference.
 
 use oracle::image::image;
+use oracle::verdict::NO_ROOM;
 use wire::Random;
 
 use super::expect;
-use super::reference::{NO_ROOM, Reference};
+use super::reference::Reference;
 use crate::images::{Compared, Tally, shown};
 use crate::{apply, open};
 

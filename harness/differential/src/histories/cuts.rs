@@ -1,7 +1,7 @@
 //! Histories with cuts at any places, beside the same ones uncut and beside the
 //! reference; and Restore of bytes that no snapshot wrote.
 
-use wire::{Random, damaged, decode};
+use wire::{Random, damaged, decode, hex};
 
 use super::course::Course;
 use super::drawn::{Drawn, capacities};
@@ -129,8 +129,4 @@ fn shuffled(random: &mut Random, snapshot: &[u8]) -> Vec<u8> {
         rest = &rest[used..];
     }
     records.concat()
-}
-
-fn hex(bytes: &[u8]) -> String {
-    bytes.iter().map(|byte| format!("{byte:02x}")).collect()
 }

@@ -3,7 +3,7 @@
 use krabka_metadata::{MetadataImage, MetadataRecord};
 use oracle::generate::Generator;
 use oracle::image::{FIXED_ROOM, MOST_CAPACITY, weight};
-use wire::{Random, damaged, encode};
+use wire::{Random, damaged, encoded};
 
 use super::History;
 use super::no_image::compare_near;
@@ -90,7 +90,7 @@ fn to_an_end(random: &mut Random, image: &MetadataImage, record: &mut MetadataRe
 /// A record, and for some of them copies: cut, with one byte changed, and with
 /// any damage. Some of these are records too.
 fn inputs(random: &mut Random, record: &MetadataRecord) -> Vec<Vec<u8>> {
-    let bytes = encode(record).expect("a kind that 01 has");
+    let bytes = encoded(record);
     if random.below(DAMAGED) != 0 {
         return vec![bytes];
     }

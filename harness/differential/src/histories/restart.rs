@@ -1,15 +1,13 @@
 //! Snapshot and Restore of a history's image.
 
-use wire::{Random, encode};
+use oracle::verdict::NO_IMAGE;
+use wire::{Random, TOO_SHORT, encoded_all};
 
 use super::course::Course;
 use super::expect;
 use super::reference::{Reference, Stopped};
 use crate::images::{Compared, Tally};
 use crate::{restore, snapshot};
-
-const NO_IMAGE: u8 = 1;
-const TOO_SHORT: u8 = 19;
 
 /// The most bytes that a snapshot's buffer is longer than it must be.
 const LONGER: usize = 40;
@@ -53,11 +51,7 @@ impl Course {
 
     /// The reference's `to_records`, in 01's order.
     pub fn expected_snapshot(&self) -> Vec<u8> {
-        let records = self.reference.observed().records;
-        let encoded = records.iter().map(encode);
-        encoded
-            .flat_map(|record| record.expect("a kind that 01 has"))
-            .collect()
+        encoded_all(&self.reference.observed().records)
     }
 }
 

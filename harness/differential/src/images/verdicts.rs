@@ -2,7 +2,7 @@
 
 use oracle::generate::{Generator, Knobs};
 use oracle::verdict::verdict;
-use wire::{Random, encode, read};
+use wire::{Random, encoded, read};
 
 use super::subject::Subject;
 use super::{Compared, Tally};
@@ -24,7 +24,7 @@ pub fn compare(tally: &mut Tally, subject: &Subject, image: &[u8], seed: u64) ->
     for _ in 0..RECORDS {
         let record = generator.record(&subject.image);
         let expected = verdict(&subject.image, &record);
-        let bytes = encode(&record).expect("a kind that 01 has");
+        let bytes = encoded(&record);
         // Later bytes are not looked at.
         let longer = [&bytes[..], &[7, 0, 1]].concat();
         expect(tally, image, &longer, expected, || format!("{record:?}"))?;

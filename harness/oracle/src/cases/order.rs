@@ -1,9 +1,10 @@
 //! Entries in order, out of it, and repeated.
 
 use krabka_metadata::{MetadataRecord, PatternType};
+use wire::encoded;
 
 use super::samples::all_kinds;
-use super::{Cases, applied, bytes};
+use super::{Cases, applied};
 use crate::facts::build::{
     broker, broker_config, controller, feature_level, freeze, partition_record, quota, recovering,
     topic,
@@ -15,7 +16,7 @@ pub fn add(cases: &mut Cases) {
     for (name, pair) in pairs() {
         let entries = pair.map(|record| match record {
             MetadataRecord::V1Topic(_) => topic_entry(&record, true),
-            _ => bytes(&record),
+            _ => encoded(&record),
         });
         let [first, second] = entries;
         let layout = |list: [&Vec<u8>; 2]| {

@@ -1,6 +1,7 @@
 //! The values of a record's fields.
 
 use std::collections::BTreeMap;
+use std::ops::{Range, RangeInclusive};
 
 use krabka_metadata::{BreakGlassApproval, BrokerEndpoint, NodeId, QuotaEntity};
 use uuid::Uuid;
@@ -116,31 +117,25 @@ impl Generator {
         self.random.percent(percent).then(|| draw(self))
     }
 
-    pub(super) fn i64(&mut self) -> i64 {
+    /// One of `few`, or a number at an end of its type's range, or next to one.
+    fn number(&mut self, range: RangeInclusive<i64>, few: Range<i64>) -> i64 {
+        let (least, most) = range.into_inner();
         if self.extreme() {
-            return self
-                .random
-                .pick(&[i64::MIN, i64::MIN + 1, i64::MAX, i64::MAX - 1]);
+            return self.random.pick(&[least, least + 1, most, most - 1]);
         }
-        self.random.below(8) as i64 - 2
+        few.start + self.random.below((few.end - few.start) as usize) as i64
+    }
+
+    pub(super) fn i64(&mut self) -> i64 {
+        self.number(i64::MIN..=i64::MAX, -2..6)
     }
 
     pub(super) fn i32(&mut self) -> i32 {
-        if self.extreme() {
-            return self
-                .random
-                .pick(&[i32::MIN, i32::MIN + 1, i32::MAX, i32::MAX - 1]);
-        }
-        self.random.below(6) as i32 - 1
+        self.number(i32::MIN.into()..=i32::MAX.into(), -1..5) as i32
     }
 
     pub(super) fn i16(&mut self) -> i16 {
-        if self.extreme() {
-            return self
-                .random
-                .pick(&[i16::MIN, i16::MIN + 1, i16::MAX, i16::MAX - 1]);
-        }
-        self.random.below(6) as i16 - 1
+        self.number(i16::MIN.into()..=i16::MAX.into(), -1..5) as i16
     }
 
     pub(super) fn u16(&mut self) -> u16 {

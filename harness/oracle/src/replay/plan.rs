@@ -1,7 +1,7 @@
 //! How the stored histories are drawn.
 
 use krabka_metadata::MetadataImage;
-use wire::{Random, damaged, encode};
+use wire::{Random, damaged, encoded};
 
 use super::run::Run;
 use super::{STEP, STEP_ALWAYS};
@@ -115,7 +115,7 @@ impl Plan {
 fn next(generator: &mut Generator, image: &MetadataImage) -> Vec<u8> {
     loop {
         let record = generator.record(image);
-        let bytes = encode(&record).expect("a kind that 01 has");
+        let bytes = encoded(&record);
         if bytes.len() <= LONGEST {
             return bytes;
         }
