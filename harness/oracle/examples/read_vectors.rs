@@ -5,7 +5,7 @@
 
 use oracle::generate::{Generator, Knobs};
 use oracle::stored::Stored;
-use wire::{Random, damaged, encoded, read};
+use wire::{Random, damaged, encoded, field, read};
 
 const SEED: u64 = 4;
 const GOOD: usize = 260;
@@ -87,11 +87,6 @@ fn edges() -> Vec<Vec<u8>> {
     longest.resize(3 + 65_535, 0);
     edges.push(longest);
     edges
-}
-
-fn field(tag: u8, value: &[u8]) -> Vec<u8> {
-    let length = u16::try_from(value.len()).expect("a short value");
-    [&[tag], &length.to_be_bytes()[..], value].concat()
 }
 
 fn run(kind: u8, fields: &[(u8, Vec<u8>)]) -> Vec<u8> {

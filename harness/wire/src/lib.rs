@@ -14,7 +14,7 @@ mod write;
 
 pub use damage::damaged;
 pub use decode::decode;
-pub use encode::{encode, encoded, encoded_all};
+pub use encode::{encode, encoded, encoded_all, field};
 pub use hex::hex;
 pub use random::Random;
 pub use read::{HEADER, OVER_A_LIMIT, PAST_THE_END, UNKNOWN_KIND, WRONG_FIELD, read};

@@ -1,5 +1,6 @@
 //! Write: a record's bytes from its fields.
 
+use crate::encode::field;
 use crate::read::{UNKNOWN_KIND, check_run};
 use crate::run::Run;
 use crate::table::shape;
@@ -45,8 +46,7 @@ pub fn write(lists: &Lists, out: &mut [u8]) -> Result<usize, u8> {
     let shape = shape(lists.kind).ok_or(UNKNOWN_KIND)?;
     let body = gathered(&lists.tags, &lists.lengths, &lists.values);
     check_run(shape.rows, &body, None)?;
-    let length = u16::try_from(body.len()).expect("the limits keep a body below 65,536");
-    let record = [&[lists.kind][..], &length.to_be_bytes(), &body].concat();
+    let record = field(lists.kind, &body);
     let place = out.get_mut(..record.len()).ok_or(TOO_SHORT)?;
     place.copy_from_slice(&record);
     Ok(record.len())

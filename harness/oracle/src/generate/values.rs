@@ -77,6 +77,11 @@ impl Generator {
         self.random.below(4)
     }
 
+    fn list<T>(&mut self, limit: usize, draw: impl Fn(&mut Self) -> T) -> Vec<T> {
+        let count = self.length(limit);
+        (0..count).map(|_| draw(self)).collect()
+    }
+
     pub(super) fn text_of(&mut self, pool: &[&str]) -> String {
         if self.extreme() {
             return self.long_text();
@@ -162,8 +167,7 @@ impl Generator {
     }
 
     pub(super) fn nodes(&mut self) -> Vec<NodeId> {
-        let count = self.length(64);
-        self.some_nodes(count)
+        self.list(64, Self::node)
     }
 
     /// One of few ids; the first is `MIGRATING`.
@@ -173,8 +177,7 @@ impl Generator {
     }
 
     pub(super) fn ids(&mut self) -> Vec<Uuid> {
-        let count = self.length(64);
-        (0..count).map(|_| self.id()).collect()
+        self.list(64, Self::id)
     }
 
     pub(super) fn signature(&mut self) -> Vec<u8> {
@@ -221,8 +224,7 @@ impl Generator {
     }
 
     pub(super) fn endpoints(&mut self) -> Vec<BrokerEndpoint> {
-        let count = self.length(16);
-        (0..count).map(|_| self.endpoint()).collect()
+        self.list(16, Self::endpoint)
     }
 
     fn endpoint(&mut self) -> BrokerEndpoint {
@@ -236,8 +238,7 @@ impl Generator {
 
     /// Entities of few types, so that equal types meet in one list.
     pub(super) fn entities(&mut self) -> Vec<QuotaEntity> {
-        let count = self.length(8);
-        (0..count).map(|_| self.entity()).collect()
+        self.list(8, Self::entity)
     }
 
     fn entity(&mut self) -> QuotaEntity {
