@@ -1,4 +1,4 @@
-/* The entry points of the proved library, target/staticlib/libexports.a.
+/* The entry points of the proved library, target/staticlib/libjeghatuf.a.
  *
  * No call asks anything of the bytes that it is given, and none keeps a
  * pointer. A list goes as a pointer, which is never null, and how many elements

@@ -1,11 +1,11 @@
 // Apply: what a record makes of an image, or a refusal that changes nothing.
-use attempt::try_in;
+use apply_step::try_in;
+use apply_work::Tried;
+use apply_work::lay;
 use header::NO_IMAGE;
 use image::is_image;
-use lay::lay;
 use records::Answer;
 use records::read;
-use work::Tried;
 ghost use mathlib.Core.Path.{_≡_};
 ghost use mathlib.Core.Bool.{true};
 ghost use lib.ListN.{length};

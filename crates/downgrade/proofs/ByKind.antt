@@ -20,11 +20,11 @@ use Rattle.model.specs.Downgrade.{isUnder, directoriesLevel, projected, assignm
 use Rattle.laws.specs.Choice.{cond-same}
 use Rattle.keys.specs.Keys.{kindIn, runIn}
 use Rattle.entries.specs.Entries.{IsRecord, recordIn}
-use Rattle.stored.proofs.Records.{kind-in, run-in}
+use Rattle.image_entries.proofs.Records.{kind-in, run-in}
 use Rattle.records.specs.Answers.{written}
 use Rattle.records.proofs.Written.{written-nothing}
-use Rattle.projections.specs.Known.{projectedBytes}
-use Rattle.slots.specs.Slots.{assignmentBytes}
+use Rattle.downgrade_brokers.specs.Known.{projectedBytes}
+use Rattle.downgrade_slots.specs.Slots.{assignmentBytes}
 use Rattle.downgrade.specs.Listed.{listedBytes}
 
 -- by the kind's number

@@ -22,8 +22,8 @@ use Rattle.laws_records.specs.Emits.{emit-fits, emit-short}
 use Rattle.laws_image.specs.Tests.{capacity-most}
 use Rattle.records.specs.Answers.{written}
 use Rattle.entries.specs.Entries.{recordsIn}
-use Rattle.reals.specs.Reals.{Reals}
-use Rattle.reals.proofs.Lent.{lent-part}
+use Rattle.find.specs.Reals.{Reals}
+use Rattle.find.proofs.Lent.{lent-part}
 use Rattle.downgrade.specs.Listed.{listedBytes, listedIn}
 
 -- records that are joined, and their bytes

@@ -10,7 +10,7 @@ use Rattle.model.specs.Number.{Bytes}
 use Rattle.entries.specs.Entries.{Entries, recordIn}
 use Rattle.entries.specs.declared.Cursor.{Cursor}
 use Rattle.entries.proofs.Turns.{Stands}
-use Rattle.stored.proofs.Turns.{forward, inside, entry-is, next-at, past-end}
+use Rattle.image_entries.proofs.Turns.{forward, inside, entry-is, next-at, past-end}
 use Rattle.keys.proofs.Found.{lent-slice}
 use Rattle.records.specs.Answers.{written}
 use Rattle.records.proofs.Growing.{Growing, grow-start, part-fits, grow, grown}

@@ -1,17 +1,17 @@
 // Downgrade: the records that take an image to a metadata level.
+use downgrade_brokers::DIRECTORIES_LEVEL;
+use downgrade_brokers::is_under;
+use downgrade_brokers::projected_size;
+use downgrade_brokers::put_projected;
+use downgrade_slots::assignments_size;
+use downgrade_slots::put_assignments;
 use entries::Cursor;
 use entries::Step;
+use find::reals_end;
 use header::NO_IMAGE;
 use image::is_image;
-use projections::DIRECTORIES_LEVEL;
-use projections::is_under;
-use projections::projected_size;
-use projections::put_projected;
-use reals::reals_end;
 use records::Answer;
 use shape_faults::TOO_SHORT;
-use slots::assignments_size;
-use slots::put_assignments;
 ghost use mathlib.Core.Path.{_≡_};
 ghost use mathlib.Core.Bool.{true};
 ghost use Prim.Native.Nat.{_+_, _*_, _≤_};

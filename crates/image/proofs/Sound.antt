@@ -15,9 +15,9 @@ use Rattle.laws.specs.Choice.{and-left, and-right, and-both}
 use Rattle.laws.specs.Lists.{every-map, every-append, every-true, all-every, all-imp}
 use Rattle.laws.specs.Count.{count-map, any-map}
 use Rattle.laws_image.specs.Entries.{entry-key, ascending-entries, real-empties, bare-reads, group-bare}
-use Rattle.stored.specs.Stored.{storableRecord, isStored}
-use Rattle.counts.specs.Counts.{countFits}
-use Rattle.groups.specs.Groups.{apartIn}
+use Rattle.image_entries.specs.Stored.{storableRecord, isStored}
+use Rattle.image_counts.specs.Counts.{countFits}
+use Rattle.image_groups.specs.Groups.{apartIn}
 use Rattle.entries.specs.Entries.{recordsIn}
 use Rattle.image.specs.Test.{realsSound, groupsSound, holding, entriesSound}
 

@@ -24,9 +24,9 @@ use Rattle.laws_image.specs.Weight.{producerSize}
 use Rattle.keys.specs.Keys.{keyIn, Keyed}
 use Rattle.entries.specs.Entries.{recordsIn, Entries, Placed}
 use Rattle.entries.proofs.Lookups as lookups
-use Rattle.stored.specs.Stored.{isStored, Parted}
-use Rattle.counts.specs.Counts.{countFits}
-use Rattle.groups.specs.Groups.{apartIn}
+use Rattle.image_entries.specs.Stored.{isStored, Parted}
+use Rattle.image_counts.specs.Counts.{countFits}
+use Rattle.image_groups.specs.Groups.{apartIn}
 use Rattle.image.specs.Test.{realsSound, groupsSound, entriesSound, producersIn, isLight}
 use Rattle.image.proofs.Sound.{entries-sound}
 

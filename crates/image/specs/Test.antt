@@ -14,9 +14,9 @@ use Rattle.model.specs.Image.{entryOf, flagReads, realOf, emptiesOf}
 use Rattle.laws.specs.Choice.{present}
 use Rattle.laws_image.specs.Weight.{producerSize}
 use Rattle.entries.specs.Entries.{recordsIn}
-use Rattle.stored.specs.Stored.{isStored}
-use Rattle.counts.specs.Counts.{countFits}
-use Rattle.groups.specs.Groups.{apartIn}
+use Rattle.image_entries.specs.Stored.{isStored}
+use Rattle.image_counts.specs.Counts.{countFits}
+use Rattle.image_groups.specs.Groups.{apartIn}
 
 -- the real entries
 abbrev pub realsSound : List Rec → Bool

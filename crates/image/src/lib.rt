@@ -1,17 +1,17 @@
 // The exact test: whether a buffer is an image.
-use counts::counts_fit;
 use entries::seek;
-use groups::groups_apart;
 use header::header_ok;
 use header::is_capacity;
 use header::used_in;
-use ids::ids_apart;
-use ordered::all_read;
-use ordered::ascends;
+use image_counts::counts_fit;
+use image_entries::all_groups;
+use image_entries::all_stored;
+use image_entries::tail_start;
+use image_groups::groups_apart;
+use image_ids::ids_apart;
+use image_order::all_read;
+use image_order::ascends;
 use shapes::all_rows;
-use stored::all_groups;
-use stored::all_stored;
-use stored::tail_start;
 ghost use mathlib.Core.Path.{_≡_};
 ghost use mathlib.Core.Bool.{true, _&&_};
 ghost use Prim.Native.Nat.{_≤_};

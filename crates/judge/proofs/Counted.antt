@@ -22,8 +22,8 @@ use Rattle.keys.specs.Keys.{kindIn, runIn}
 use Rattle.entries.specs.Entries.{recordsIn, Entries, sizeAt, IsRecord, recordIn}
 use Rattle.entries.specs.declared.Cursor.{Cursor}
 use Rattle.entries.proofs.Turns.{Stands}
-use Rattle.stored.proofs.Records.{kind-in, run-in, kind-is}
-use Rattle.stored.proofs.Turns.{entry-is, next-at, past-end}
+use Rattle.image_entries.proofs.Records.{kind-in, run-in, kind-is}
+use Rattle.image_entries.proofs.Turns.{entry-is, next-at, past-end}
 
 -- 1. One entry
 

@@ -17,8 +17,8 @@ use Rattle.model.specs.Move.{runAt, brokerAt, atEpoch, storedNext, isAbove}
 use Rattle.model.specs.declared.Kind.the-variants.{BrokerRegistration, ProducerIds}
 use Rattle.keys.specs.Keys.{runIn}
 use Rattle.entries.specs.Entries.{Entries, Placed}
-use Rattle.stored.proofs.Records.{headed, run-in, value-is}
-use Rattle.found.specs.Found.{queryKey}
+use Rattle.image_entries.proofs.Records.{headed, run-in, value-is}
+use Rattle.find.specs.Found.{queryKey}
 use Rattle.judge.specs.Judge.{entriesIn}
 use Rattle.judge.proofs.Queries.{broker-key, producer-key}
 use Rattle.judge.proofs.Held.{Held, held, held-run, none-run}

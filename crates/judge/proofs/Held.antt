@@ -28,7 +28,7 @@ use Rattle.keys.specs.Keys.{kindIn, runIn}
 use Rattle.keys.proofs.Found.{lent-slice}
 use Rattle.entries.specs.Entries.{recordsIn, Entries, Placed, IsRecord, recordIn}
 use Rattle.entries.proofs.Lookups.{absent, present}
-use Rattle.stored.proofs.Records.{kind-in, run-in}
+use Rattle.image_entries.proofs.Records.{kind-in, run-in}
 use Rattle.judge.specs.Judge.{entriesIn}
 
 -- 1. The entry

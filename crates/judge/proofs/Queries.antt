@@ -16,7 +16,7 @@ use Rattle.model.specs.Contents.{Entry, key}
 use Rattle.model.specs.Validate.{unknownTopic}
 use Rattle.model.specs.declared.Kind.the-variants.{Topic, Partition, BrokerRegistration, ProducerIds, ControllerRegistration, BreakGlassProposal}
 use Rattle.entries.specs.Entries.{Placed}
-use Rattle.found.specs.Found.{Query, queryKey}
+use Rattle.find.specs.Found.{Query, queryKey}
 
 pub topic-query : (name : Bytes) → length name ≤ 255 → Query 1 name []
 unfolding kindOf kinds

@@ -23,8 +23,8 @@ use Rattle.model.specs.Validate.{topicExists}
 use Rattle.model.specs.declared.Kind.the-variants.{Topic}
 use Rattle.keys.specs.Keys.{runIn}
 use Rattle.entries.specs.Entries.{Entries, Placed, recordIn}
-use Rattle.stored.proofs.Records.{headed, run-in, kind-is, value-is}
-use Rattle.found.specs.Found.{queryKey}
+use Rattle.image_entries.proofs.Records.{headed, run-in, kind-is, value-is}
+use Rattle.find.specs.Found.{queryKey}
 use Rattle.judge.specs.Judge.{entriesIn, TopicFields, mayReplace}
 use Rattle.judge.proofs.Queries.{topic-key}
 use Rattle.judge.proofs.Held.{Held, held, none-held}

@@ -18,8 +18,8 @@ use Rattle.model.specs.Validate.{extends, proposalFault}
 use Rattle.model.specs.declared.Kind.the-variants.{BreakGlassProposal}
 use Rattle.keys.specs.Keys.{runIn}
 use Rattle.entries.specs.Entries.{Entries, Placed}
-use Rattle.stored.proofs.Records.{headed, run-in, value-is}
-use Rattle.found.specs.Found.{queryKey}
+use Rattle.image_entries.proofs.Records.{headed, run-in, value-is}
+use Rattle.find.specs.Found.{queryKey}
 use Rattle.judge.specs.Judge.{entriesIn}
 use Rattle.judge.proofs.Queries.{proposal-key}
 use Rattle.judge.proofs.Held.{Held, held, held-run, none-run}

@@ -1,6 +1,6 @@
 // Stored entries by what a record names.
 use entries::Place;
-use found::find;
+use find::find;
 use keys::value_at;
 ghost use mathlib.Core.Path.{_≡_};
 ghost use mathlib.Core.List.{[]};
@@ -12,7 +12,7 @@ ghost use Rattle.model.specs.Map.{get};
 ghost use Rattle.model.specs.Contents.{key};
 ghost use Rattle.keys.specs.Keys.{runIn};
 ghost use Rattle.entries.specs.Entries.{Entries, Placed};
-ghost use Rattle.found.specs.Found.{Query, queryKey};
+ghost use Rattle.find.specs.Found.{Query, queryKey};
 ghost use Rattle.judge.specs.Judge.{entriesIn};
 
 // Whether there is an entry of a kind whose first two fields, or as much of them as its key has, are these.

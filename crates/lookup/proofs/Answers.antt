@@ -25,12 +25,12 @@ use Rattle.model.specs.declared.Kind.the-variants.{Partition, BrokerRegistratio
 use Rattle.laws.specs.Choice.{orThen-right, unless-true}
 use Rattle.laws_image.specs.Tests.{capacity-least, image-holds}
 use Rattle.entries.specs.Entries.{recordsIn}
-use Rattle.found.specs.Found.{queryKey, foundIn}
-use Rattle.reals.specs.Reals.{Reals}
-use Rattle.reals.proofs.Lent.{lent-held}
+use Rattle.find.specs.Found.{queryKey, foundIn}
+use Rattle.find.specs.Reals.{Reals}
+use Rattle.find.proofs.Lent.{lent-held}
 use Rattle.judge.proofs.Queries.{topic-key, partition-key, broker-key}
-use Rattle.rates.specs.Rates.{rated}
-use Rattle.rates.specs.declared.Rate.{Rate}
+use Rattle.lookup_rates.specs.Rates.{rated}
+use Rattle.lookup_rates.specs.declared.Rate.{Rate}
 use Rattle.lookup.specs.Values.{rating, ratedAs}
 use Rattle.lookup.specs.declared.Rated.{Rated}
 

@@ -1,18 +1,18 @@
 // Lookups: a stored entry as its record, the features epoch, the number of short partitions, the freeze of a name, a rate.
-use found::emit_found;
-use freezes::emit_freeze;
+use find::emit_found;
+use find::reals_end;
 use header::NO_IMAGE;
 use header::epoch_in;
 use image::is_image;
+use lookup_freezes::emit_freeze;
+use lookup_rates::Rate;
+use lookup_scans::emit_named;
+use lookup_scans::short_in;
+use lookup_throttles::rate_in;
 use model::NodeId;
-use rates::Rate;
-use reals::reals_end;
 use records::Answer;
-use scans::emit_named;
-use scans::short_in;
 use shape_faults::WRONG;
 use shape_faults::text_fault;
-use throttles::rate_in;
 ghost use mathlib.Core.Path.{_≡_};
 ghost use mathlib.Core.Bool.{true};
 ghost use Prim.Native.Nat.{_≤_};
@@ -23,7 +23,7 @@ ghost use Rattle.model.specs.Image.{isImage, contentsOf};
 ghost use Rattle.model.specs.Snapshot.{emit};
 ghost use Rattle.model.specs.Lookup.{found, topicByName, topicById, partitionOf, brokerOf, epochOf, shortOf, throttle as throttleIn, freezeOf, throttleOf};
 ghost use Rattle.records.specs.Answers.{replied};
-ghost use Rattle.found.specs.Found.{Query, queryKey};
+ghost use Rattle.find.specs.Found.{Query, queryKey};
 ghost use Rattle.lookup.specs.Values.{valued, rating, ratedAs};
 
 // The kinds that are looked up.

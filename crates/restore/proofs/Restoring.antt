@@ -25,15 +25,15 @@ use Rattle.laws_apply.specs.MovedFits.{fits-holds}
 use Rattle.keys.proofs.Found.{lent-slice, slice-rest}
 use Rattle.judge.specs.Judge.{loggedIn}
 use Rattle.validate.proofs.Verdicts.{it, logged-is}
-use Rattle.work.specs.Work.{Good}
-use Rattle.rebuild.specs.Rebuild.{Rebuilt}
-use Rattle.work.specs.Work.{stateIn}
-use Rattle.attempt.specs.Step.{Holding, outcome, StillHolding}
+use Rattle.apply_work.specs.Work.{Good}
+use Rattle.restore_copy.specs.Rebuild.{Rebuilt}
+use Rattle.apply_work.specs.Work.{stateIn}
+use Rattle.apply_step.specs.Step.{Holding, outcome, StillHolding}
 use Rattle.records.proofs.Replies.{refused-bad}
 use Rattle.restore.specs.Restore.{NextIs, replayed, wholeContents, Whole, RanAs}
-use Rattle.work.specs.declared.State.{State}
-use Rattle.work.specs.declared.Tried.{Tried}
-use Rattle.work.specs.declared.Tried.the-variants.{Refused as TriedRefused, Moved as TriedMoved}
+use Rattle.apply_work.specs.declared.State.{State}
+use Rattle.apply_work.specs.declared.Tried.{Tried}
+use Rattle.apply_work.specs.declared.Tried.the-variants.{Refused as TriedRefused, Moved as TriedMoved}
 use Rattle.restore.specs.declared.Next.{Next}
 use Rattle.restore.specs.declared.Next.the-variants.{Moved, Unread, Refused}
 use Rattle.restore.specs.declared.Ran.{Ran}

@@ -11,9 +11,9 @@ use Rattle.model.specs.Contents.{Contents, fresh}
 use Rattle.model.specs.Reply.{Reply, accepted, refused}
 use Rattle.model.specs.Apply.{stays, becomes, apply}
 use Rattle.model.specs.Snapshot.{Replayed, stopped, replay}
-use Rattle.work.specs.Work.{stateIn}
-use Rattle.attempt.specs.Step.{Holding}
-use Rattle.work.specs.declared.State.{State}
+use Rattle.apply_work.specs.Work.{stateIn}
+use Rattle.apply_step.specs.Step.{Holding}
+use Rattle.apply_work.specs.declared.State.{State}
 use Rattle.restore.specs.declared.Next.{Next}
 use Rattle.restore.specs.declared.Next.the-variants.{Moved, Unread, Refused}
 use Rattle.restore.specs.declared.Ran.{Ran}

@@ -1,23 +1,23 @@
 // Restore: the image of some records, from nothing.
-use attempt::step;
+use apply_step::step;
+use apply_work::Room;
+use apply_work::State;
+use apply_work::Tried;
+use apply_work::lay;
 use header::NO_EPOCH;
 use header::NO_IMAGE;
 use header::is_capacity;
-use lay::lay;
-use rebuild::rebuild;
 use records::Answer;
 use records::read;
-use work::Room;
-use work::State;
-use work::Tried;
+use restore_copy::rebuild;
 ghost use mathlib.Core.Path.{_≡_};
 ghost use mathlib.Core.Bool.{true};
 ghost use Prim.Native.Nat.{_≤_};
 ghost use lib.ListN.{length};
 ghost use Rattle.model.specs.Image.{isCapacity, imageOf};
 ghost use Rattle.model.specs.Snapshot.{restoreOf};
-ghost use Rattle.drafts.specs.Drafts.{draftRoom};
-ghost use Rattle.attempt.specs.Step.{workRoom, Holding};
+ghost use Rattle.apply_drafts.specs.Drafts.{draftRoom};
+ghost use Rattle.apply_step.specs.Step.{workRoom, Holding};
 ghost use Rattle.restore.specs.Restore.{NextIs, RanAs, Whole, wholeContents, restored};
 
 // What the first of some records comes to: the state after it and how many bytes it has; Read's refusal, which leaves the work array as it was; or

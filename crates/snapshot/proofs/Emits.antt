@@ -16,8 +16,8 @@ use Rattle.model.specs.Snapshot.{epochRecords, kraftRecords, trail, snapshot, e
 use Rattle.laws.specs.Lists.{joined-append, joined-map}
 use Rattle.records.specs.Answers.{written}
 use Rattle.entries.specs.Entries.{recordsIn}
-use Rattle.reals.specs.Reals.{Reals}
-use Rattle.reals.proofs.Lent.{lent-held}
+use Rattle.find.specs.Reals.{Reals}
+use Rattle.find.proofs.Lent.{lent-held}
 use Rattle.snapshot.specs.Shown.{shownIn, epochBytes, kraftBytes}
 use Rattle.records.proofs.Growing.{Growing, grow-start, part-fits, rest-fits, grow, grown}
 

@@ -17,12 +17,12 @@ use Rattle.keys.proofs.Found.{lent-slice}
 use Rattle.entries.specs.Entries.{recordsIn, Entries, sizeAt}
 use Rattle.entries.specs.declared.Cursor.{Cursor}
 use Rattle.entries.proofs.Turns.{Stands, lent}
-use Rattle.stored.proofs.Turns.{forward, inside, next-at, past-end, is-record}
-use Rattle.shown.specs.Shown.{flagSize, Entire, shownSize, shownBytes}
-use Rattle.shown.proofs.Puts.{length-shown}
-use Rattle.shown.proofs.Records.{record-shown}
-use Rattle.found.specs.Found.{AllKept}
-use Rattle.found.proofs.Finds.{entire}
+use Rattle.image_entries.proofs.Turns.{forward, inside, next-at, past-end, is-record}
+use Rattle.find.specs.Shown.{flagSize, Entire, shownSize, shownBytes}
+use Rattle.find.proofs.Puts.{length-shown}
+use Rattle.find.proofs.Records.{record-shown}
+use Rattle.find.specs.Found.{AllKept}
+use Rattle.find.proofs.Finds.{entire}
 use Rattle.snapshot.specs.Shown.{shownIn}
 use Rattle.records.proofs.Growing.{Growing, grow-start, part-fits, grow, grown}
 

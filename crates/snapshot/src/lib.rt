@@ -1,16 +1,16 @@
 // Snapshot: what an image holds, as records in the order of their keys.
 use entries::Cursor;
 use entries::Step;
+use find::put_shown;
+use find::reals_end;
+use find::shown_size;
 use header::NO_IMAGE;
 use header::epoch_in;
 use header::kraft_in;
 use image::is_image;
-use reals::reals_end;
 use records::Answer;
 use records::put_head;
 use shape_faults::TOO_SHORT;
-use shown::put_shown;
-use shown::shown_size;
 ghost use mathlib.Core.Path.{_≡_};
 ghost use mathlib.Core.Bool.{true};
 ghost use Prim.Native.Nat.{_+_, _≤_};
@@ -19,7 +19,7 @@ ghost use Rattle.model.specs.Image.{isImage, contentsOf};
 ghost use Rattle.model.specs.Snapshot.{snapshot as snapshotRecords, emit, snapshotOf};
 ghost use Rattle.records.specs.Answers.{replied, written};
 ghost use Rattle.entries.specs.Entries.{recordsIn, Entries};
-ghost use Rattle.found.specs.Found.{AllKept};
+ghost use Rattle.find.specs.Found.{AllKept};
 ghost use Rattle.snapshot.specs.Shown.{shownIn, numberBytes, epochBytes, kraftBytes};
 
 // The records after the entries': the features epoch where it is not negative, the kraft version where it is not 0.

@@ -18,8 +18,8 @@ use Rattle.laws_records.specs.Records.{record-read, read-later}
 use Rattle.header.specs.Header.{numbered}
 use Rattle.entries.specs.Entries.{recordsIn}
 use Rattle.judge.specs.Judge.{IsLogged, loggedIn}
-use Rattle.reals.specs.Reals.{Reals}
-use Rattle.reals.proofs.Lent.{lent-held}
+use Rattle.find.specs.Reals.{Reals}
+use Rattle.find.proofs.Lent.{lent-held}
 use Rattle.records.proofs.Replies.{used-got, refused-bad}
 
 -- 1. The record

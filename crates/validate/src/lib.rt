@@ -1,8 +1,8 @@
 // Validate: what stands against a record. It changes nothing.
+use find::reals_end;
 use header::NO_IMAGE;
 use image::is_image;
 use judge::judge;
-use reals::reals_end;
 use records::Answer;
 use records::read;
 ghost use mathlib.Core.Path.{_≡_};

@@ -1,4 +1,4 @@
-//! The entry points of crates/exports. Their contracts ask nothing, so that
+//! The entry points of crates/jeghatuf. Their contracts ask nothing, so that
 //! every call is safe.
 
 #[cfg(feature = "images")]
@@ -10,6 +10,8 @@ mod restarts;
 pub use images::*;
 #[cfg(feature = "images")]
 pub use restarts::*;
+
+use wire::Lists;
 
 unsafe extern "C" {
     fn jeghatuf_read(input: *const u8, input_len: usize) -> u64;
@@ -39,17 +41,17 @@ pub fn read(input: &[u8]) -> Result<usize, u8> {
     unpacked(unsafe { jeghatuf_read(input.as_ptr(), input.len()) })
 }
 
-pub fn write(
-    kind: u8,
-    tags: &[u8],
-    lengths: &[u16],
-    values: &[u8],
-    out: &mut [u8],
-) -> Result<usize, u8> {
+pub fn write(lists: &Lists, out: &mut [u8]) -> Result<usize, u8> {
+    let Lists {
+        kind,
+        tags,
+        lengths,
+        values,
+    } = lists;
     // SAFETY: each pointer and length are a slice's, and `out` is borrowed alone.
     unpacked(unsafe {
         jeghatuf_write(
-            kind,
+            *kind,
             tags.as_ptr(),
             tags.len(),
             lengths.as_ptr(),

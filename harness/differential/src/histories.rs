@@ -72,7 +72,7 @@ impl History {
 
 /// An input in hex, and its record or why it has none.
 fn told(input: &[u8]) -> String {
-    let hex: String = input.iter().map(|byte| format!("{byte:02x}")).collect();
+    let hex = wire::hex(input);
     match wire::decode(input) {
         Ok((record, _)) => format!("  {hex}\n    {record:?}\n"),
         Err(number) => format!("  {hex}\n    no record: {number}\n"),

@@ -25,5 +25,4 @@ pub use open::compare_open;
 pub(crate) use subject::{Subject, knobs};
 pub use tally::Tally;
 
-/// Nothing, or the first difference in words.
-pub type Compared = Result<(), String>;
+pub use crate::Compared;

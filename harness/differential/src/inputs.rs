@@ -1,9 +1,7 @@
 //! Inputs drawn from a seed: records, good and damaged.
 
 use oracle::generate::{Generator, Knobs};
-use wire::{Run, damaged, encode};
-
-use crate::random::Random;
+use wire::{Lists, Random, damaged, encoded};
 
 /// The records of one generated history.
 const HISTORY: usize = 200;
@@ -20,7 +18,7 @@ pub struct Inputs {
 
 impl Inputs {
     pub fn new(seed: u64) -> Self {
-        let random = Random::new(seed);
+        let random = Random::beside(seed);
         Self {
             seed,
             random,
@@ -34,9 +32,9 @@ impl Inputs {
             ..Knobs::default()
         };
         for record in Generator::new(self.seed, knobs).history(HISTORY) {
-            let mut bytes = encode(&record).expect("a kind that 01 has");
+            let mut bytes = encoded(&record);
             for _ in 0..DAMAGED {
-                let next = damaged(&mut || self.random.next(), &bytes);
+                let next = damaged(&mut self.random, &bytes);
                 self.waiting.push(bytes);
                 bytes = next;
             }
@@ -53,9 +51,9 @@ impl Inputs {
     }
 
     /// Write's input from a record's bytes: its fields as lists, in some cases
-    /// with a length or a value byte too many or too few, and an output that is
+    /// with a length or a value byte too many or too few; and an output that is
     /// about as long as the record.
-    pub fn lists(&mut self, record: &[u8]) -> Lists {
+    pub fn lists(&mut self, record: &[u8]) -> (Lists, Vec<u8>) {
         let mut lists = Lists::of(record);
         match self.random.below(12) {
             0 => drop(lists.lengths.pop()),
@@ -67,39 +65,6 @@ impl Inputs {
         }
         let written = 3 + 3 * lists.tags.len() + lists.values.len();
         let room = (written + self.random.below(6)).saturating_sub(2);
-        lists.out = (0..room).map(|_| self.random.next() as u8).collect();
-        lists
-    }
-}
-
-/// What Write is given.
-pub struct Lists {
-    pub kind: u8,
-    pub tags: Vec<u8>,
-    pub lengths: Vec<u16>,
-    pub values: Vec<u8>,
-    pub out: Vec<u8>,
-}
-
-impl Lists {
-    /// The fields of a record, and no output.
-    pub fn of(record: &[u8]) -> Self {
-        let (kind, body) = Run::new(record)
-            .next()
-            .and_then(Result::ok)
-            .unwrap_or((0, &[]));
-        let mut lists = Self {
-            kind,
-            tags: Vec::new(),
-            lengths: Vec::new(),
-            values: Vec::new(),
-            out: Vec::new(),
-        };
-        for (tag, value) in Run::new(body).map_while(Result::ok) {
-            lists.tags.push(tag);
-            lists.lengths.push(value.len() as u16);
-            lists.values.extend(value);
-        }
-        lists
+        (lists, self.random.bytes(room))
     }
 }

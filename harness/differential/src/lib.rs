@@ -2,8 +2,6 @@
 //! the programs of this crate compare and time them.
 
 #[cfg(feature = "images")]
-mod asked;
-#[cfg(feature = "images")]
 pub mod benchmarks;
 mod entry;
 #[cfg(feature = "images")]
@@ -11,12 +9,11 @@ pub mod histories;
 #[cfg(feature = "images")]
 pub mod images;
 mod inputs;
-mod random;
+mod program;
 pub mod timing;
 mod typical;
 
-#[cfg(feature = "images")]
-pub use asked::{Asked, ended};
 pub use entry::*;
-pub use inputs::{Inputs, Lists};
+pub use inputs::Inputs;
+pub use program::{Asked, Compared, Comparison, Help};
 pub use typical::typical;

@@ -1,9 +1,6 @@
 //! Typical records, to time readers on.
 
-fn field(tag: u8, value: &[u8]) -> Vec<u8> {
-    let length = u16::try_from(value.len()).expect("a short value");
-    [&[tag], &length.to_be_bytes()[..], value].concat()
-}
+use wire::field;
 
 fn run(fields: &[(u8, &[u8])]) -> Vec<u8> {
     fields

@@ -1,11 +1,8 @@
-//! Writes the input and the expected output of the program `image_vectors`: operations over images, and what the harness says of them. Open's
+//! Writes the input and the expected output of the program `test_image`: operations over images, and what the harness says of them. Open's
 //! answers are the harness's own layout of a fresh image, the exact test's the named cases' fixed ones, the lookups' the reference's. From the
 //! repository's root:
 //!
-//!     cargo run --manifest-path harness/Cargo.toml --example image_vectors -- crates/image_vectors
-
-use std::fmt::Write;
-use std::{env, fs};
+//!     cargo run --manifest-path harness/Cargo.toml --example image_vectors -- crates/test_image
 
 use krabka_metadata::{MetadataImage, MetadataRecord, NodeId, PartitionRecord};
 use oracle::cases::cases;
@@ -13,8 +10,9 @@ use oracle::facts::build;
 use oracle::image::{FIXED_ROOM, MOST_CAPACITY, layout, weight};
 use oracle::layout::Layout;
 use oracle::observe::{Witness, observe};
+use oracle::stored::Stored;
 use uuid::Uuid;
-use wire::{TOO_SHORT, encode};
+use wire::{TOO_SHORT, encoded, hex};
 
 const OPEN: u8 = 0;
 const EXACT: u8 = 1;
@@ -39,37 +37,11 @@ const HEAD: &str = "\
 ";
 
 fn main() {
-    let folder = env::args().nth(1).expect("the program's folder");
-    let mut lines = Lines {
-        stdin: HEAD.to_owned(),
-        stdout: String::new(),
-    };
+    let mut lines = Stored::new(HEAD);
     open(&mut lines);
     exact(&mut lines);
     lookups(&mut lines);
-    fs::write(format!("{folder}/stdin"), lines.stdin).expect("the folder is writable");
-    fs::write(format!("{folder}/stdout"), lines.stdout).expect("the folder is writable");
-}
-
-struct Lines {
-    stdin: String,
-    stdout: String,
-}
-
-impl Lines {
-    fn title(&mut self, text: &str) {
-        writeln!(self.stdin, "# {text}").expect("a string takes it");
-    }
-
-    fn push(&mut self, operation: u8, parts: &[&[u8]], answer: &str) {
-        let line = [&[operation], parts.concat().as_slice()].concat();
-        writeln!(self.stdin, "{}", hex(&line)).expect("a string takes it");
-        writeln!(self.stdout, "{answer}").expect("a string takes it");
-    }
-}
-
-fn hex(bytes: &[u8]) -> String {
-    bytes.iter().map(|byte| format!("{byte:02x}")).collect()
+    lines.write();
 }
 
 /// The last bytes of a number.
@@ -78,7 +50,7 @@ fn bytes_of(number: usize, width: usize) -> Vec<u8> {
 }
 
 /// Open on buffers that hold something.
-fn open(lines: &mut Lines) {
+fn open(lines: &mut Stored) {
     let fills: [&[u8]; 4] = [&[], &[0], &[0xff], b"KRABKA\x00\x01 and more"];
     for capacity in [
         0, 1, 63, 64, 127, 128, 129, 4_096, 65_535, 65_536, 65_537, 70_000,
@@ -113,7 +85,7 @@ fn digest(bytes: &[u8]) -> u64 {
 }
 
 /// The named cases with their fixed answers, most of them without the zeros at their end, and one full image.
-fn exact(lines: &mut Lines) {
+fn exact(lines: &mut Stored) {
     let mut many = 0;
     for case in cases() {
         let end = case.bytes.iter().rposition(|byte| *byte != 0);
@@ -159,7 +131,7 @@ fn records() -> Vec<MetadataRecord> {
     ]
 }
 
-fn lookups(lines: &mut Lines) {
+fn lookups(lines: &mut Stored) {
     let records = records();
     let image = MetadataImage::from_records(Uuid::nil(), &records);
     let mut witness = Witness::default();
@@ -187,10 +159,14 @@ struct Asked {
 
 impl Asked {
     /// A stored entry as its record, into an output that just has room and one that has not; no bytes where there is none.
-    fn push(&self, lines: &mut Lines, operation: u8, query: &[u8], record: Option<MetadataRecord>) {
-        let record = record.map_or(Vec::new(), |record| {
-            encode(&record).expect("a kind that 01 has")
-        });
+    fn push(
+        &self,
+        lines: &mut Stored,
+        operation: u8,
+        query: &[u8],
+        record: Option<MetadataRecord>,
+    ) {
+        let record = record.map_or(Vec::new(), |record| encoded(&record));
         let mut push = |room: usize, answer: &str| {
             lines.push(operation, &[&bytes_of(room, 2), query, &self.bytes], answer);
         };
@@ -203,7 +179,7 @@ impl Asked {
         }
     }
 
-    fn topics(&self, lines: &mut Lines) {
+    fn topics(&self, lines: &mut Stored) {
         lines.title("topics by name");
         for name in ["p", "q", "r", "", "o", "pp"] {
             let record = self.image.topic(name).cloned();
@@ -223,7 +199,7 @@ impl Asked {
         }
     }
 
-    fn ids(&self, lines: &mut Lines) {
+    fn ids(&self, lines: &mut Stored) {
         lines.title("topics by id");
         for number in [0, 1, 2, 3] {
             let id = build::id(number);
@@ -237,7 +213,7 @@ impl Asked {
         }
     }
 
-    fn partitions(&self, lines: &mut Lines) {
+    fn partitions(&self, lines: &mut Stored) {
         lines.title("partitions");
         for (name, number) in [
             ("p", 0),
@@ -263,7 +239,7 @@ impl Asked {
         }
     }
 
-    fn brokers(&self, lines: &mut Lines) {
+    fn brokers(&self, lines: &mut Stored) {
         lines.title("brokers");
         for node in [0, 1, 2, u64::MAX] {
             let record = self.image.broker(NodeId(node)).cloned();
@@ -284,7 +260,7 @@ fn bad_names() -> [(Vec<u8>, &'static str); 2] {
 }
 
 /// Each lookup of a buffer that is no image says 1.
-fn no_image(lines: &mut Lines, buffer: &[u8]) {
+fn no_image(lines: &mut Stored, buffer: &[u8]) {
     lines.title("lookups in a buffer that is no image");
     let room = bytes_of(600, 2);
     lines.push(TOPIC, &[&room, &named(b"p"), buffer], "1");

@@ -1,55 +1,41 @@
-//! Writes the input and the expected output of the program `read_vectors`: records, good and damaged, and what the harness's own reader says of
+//! Writes the input and the expected output of the program `test_read`: records, good and damaged, and what the harness's own reader says of
 //! them. From the repository's root:
 //!
-//!     cargo run --manifest-path harness/Cargo.toml --example read_vectors -- crates/read_vectors
-
-use std::fmt::Write;
-use std::{env, fs};
+//!     cargo run --manifest-path harness/Cargo.toml --example read_vectors -- crates/test_read
 
 use oracle::generate::{Generator, Knobs};
-use wire::{damaged, encode, read};
+use oracle::stored::Stored;
+use wire::{Random, damaged, encoded, field, read};
 
 const SEED: u64 = 4;
 const GOOD: usize = 260;
 
+const HEAD: &str = "\
+# Records in hexadecimal, one to a line, good and damaged; made by harness/oracle/examples/read_vectors.rs
+";
+
 fn main() {
-    let folder = env::args().nth(1).expect("the program's folder");
-    let inputs = inputs();
-    let mut stdin = String::from(
-        "# Records in hexadecimal, one to a line, good and damaged; made by harness/oracle/examples/read_vectors.rs\n",
-    );
-    let mut stdout = String::new();
-    for input in &inputs {
-        for byte in input {
-            write!(stdin, "{byte:02x}").expect("a string takes it");
-        }
-        stdin.push('\n');
-        match read(input) {
-            Ok(used) => writeln!(stdout, "0 {used}"),
-            Err(number) => writeln!(stdout, "{number}"),
-        }
-        .expect("a string takes it");
+    let mut stored = Stored::new(HEAD);
+    for input in inputs() {
+        let answer = match read(&input) {
+            Ok(used) => format!("0 {used}"),
+            Err(number) => number.to_string(),
+        };
+        stored.line(&input, &answer);
     }
-    fs::write(format!("{folder}/stdin"), stdin).expect("the folder is writable");
-    fs::write(format!("{folder}/stdout"), stdout).expect("the folder is writable");
+    stored.write();
 }
 
 /// Generated records, each with a damaged copy, and inputs at the limits.
 fn inputs() -> Vec<Vec<u8>> {
-    let mut state = SEED;
-    let mut random = move || {
-        state = state
-            .wrapping_mul(6364136223846793005)
-            .wrapping_add(1442695040888963407);
-        state >> 11
-    };
+    let mut random = Random::beside(SEED);
     let knobs = Knobs {
         extreme: 2,
         ..Knobs::default()
     };
     let mut inputs = edges();
     for record in Generator::new(SEED, knobs).history(GOOD) {
-        let good = encode(&record).expect("a kind that 01 has");
+        let good = encoded(&record);
         inputs.push(damaged(&mut random, &good));
         inputs.push(good);
     }
@@ -101,11 +87,6 @@ fn edges() -> Vec<Vec<u8>> {
     longest.resize(3 + 65_535, 0);
     edges.push(longest);
     edges
-}
-
-fn field(tag: u8, value: &[u8]) -> Vec<u8> {
-    let length = u16::try_from(value.len()).expect("a short value");
-    [&[tag], &length.to_be_bytes()[..], value].concat()
 }
 
 fn run(kind: u8, fields: &[(u8, Vec<u8>)]) -> Vec<u8> {

@@ -1,18 +1,15 @@
 //! Writes the samples of the program `inspect`, files of record bytes, into a folder. From the repository's root:
 //!
-//!     cargo run --manifest-path harness/Cargo.toml --example samples -- crates/inspect/data
+//!     cargo run --manifest-path harness/Cargo.toml --example samples -- crates/tool_inspect/data
 
 use std::path::Path;
 use std::{env, fs};
 
-use krabka_metadata::{
-    ClientQuotaRecord, LeaderEpoch, MetadataRecord, NodeId, PartitionRecord, PatternType,
-    QuotaEntity,
-};
+use krabka_metadata::{LeaderEpoch, MetadataRecord, NodeId, PartitionRecord, PatternType};
 use oracle::facts::build::{
-    broker, broker_config, delete_topic, features_epoch, freeze, partition, topic,
+    broker, broker_config, delete_topic, features_epoch, freeze, partition, quota, topic,
 };
-use wire::encode;
+use wire::encoded_all;
 
 const BROKERS: [u64; 3] = [1, 2, 3];
 const THROTTLE: &str = "leader.replication.throttled.rate";
@@ -23,24 +20,20 @@ fn main() {
         fs::write(Path::new(&folder).join(name), bytes).expect("the folder is writable");
     };
     let plan = [registered(), first_plans(), rules(), second_plan()].concat();
-    write("plan.records", &encoded(&plan));
+    write("plan.records", &encoded_all(&plan));
     write("damaged.records", &damaged(&plan));
-    write("unmet.records", &encoded(&unmet()));
+    write("unmet.records", &encoded_all(&unmet()));
     write("empty.records", &[]);
-    write("quotas.records", &encoded(&[leaders(), quotas()].concat()));
-}
-
-fn encoded(records: &[MetadataRecord]) -> Vec<u8> {
-    let encoded = records.iter().map(encode);
-    encoded
-        .flat_map(|record| record.expect("a kind that 01 has"))
-        .collect()
+    write(
+        "quotas.records",
+        &encoded_all(&[leaders(), quotas()].concat()),
+    );
 }
 
 /// The sample with a wrong tag in its sixth record, and its last record cut.
 fn damaged(records: &[MetadataRecord]) -> Vec<u8> {
-    let mut bytes = encoded(records);
-    bytes[encoded(&records[..5]).len() + 3] = 9;
+    let mut bytes = encoded_all(records);
+    bytes[encoded_all(&records[..5]).len() + 3] = 9;
     bytes.truncate(bytes.len() - 5);
     bytes
 }
@@ -73,18 +66,6 @@ fn leaders() -> Vec<MetadataRecord> {
         led(0, 3, i32::MAX),
         led(1, u64::MAX, i32::MIN),
     ]
-}
-
-fn quota(entities: &[(&str, Option<&str>)], key: &str, value: Option<f64>) -> MetadataRecord {
-    let entity = |(entity_type, entity_name): &(&str, Option<&str>)| QuotaEntity {
-        entity_type: entity_type.to_string(),
-        entity_name: entity_name.map(str::to_owned),
-    };
-    MetadataRecord::V1ClientQuota(ClientQuotaRecord {
-        entity: entities.iter().map(entity).collect(),
-        config_key: key.to_owned(),
-        config_value: value,
-    })
 }
 
 /// Quotas of one entity and of two, with and without a name: whole values to

@@ -11,7 +11,6 @@ mod weight;
 
 use krabka_metadata::{MetadataImage, MetadataRecord};
 use uuid::Uuid;
-use wire::encode;
 
 use crate::image::layout;
 use crate::layout::Layout;
@@ -67,10 +66,6 @@ fn applied(records: &[MetadataRecord]) -> Layout {
     records.iter().for_each(|record| witness.see(record));
     let image = MetadataImage::from_records(Uuid::nil(), records);
     layout(&observe(&image, &witness))
-}
-
-fn bytes(record: &MetadataRecord) -> Vec<u8> {
-    encode(record).expect("a kind that 01 has")
 }
 
 impl Layout {

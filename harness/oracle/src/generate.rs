@@ -3,14 +3,13 @@
 //! at them. Equal seeds and knobs give equal histories.
 
 mod draw;
-mod random;
 mod values;
 
 use krabka_metadata::{MetadataImage, MetadataRecord};
 use uuid::Uuid;
+use wire::Random;
 
 use crate::verdict::{ACCEPTED, offset_leaves_i64, verdict};
-use random::Random;
 
 /// How often a record is drawn again to find one that `validate` accepts.
 const TRIES: usize = 8;

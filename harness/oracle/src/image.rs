@@ -1,7 +1,7 @@
 //! The image's bytes, built from what the reference holds.
 
 use krabka_metadata::{BrokerConfigRecord, ClientQuotaRecord, MetadataRecord, NodeId, QuotaEntity};
-use wire::encode;
+use wire::encoded;
 
 use crate::layout::Layout;
 use crate::observe::Observed;
@@ -16,8 +16,8 @@ pub fn weight(observed: &Observed) -> usize {
         MetadataRecord::V1ProducerIds(_)
         | MetadataRecord::V1FeaturesEpoch(_)
         | MetadataRecord::V1KRaftVersion(_) => 0,
-        MetadataRecord::V1Topic(_) => bytes(record).len() + 8,
-        _ => bytes(record).len(),
+        MetadataRecord::V1Topic(_) => encoded(record).len() + 8,
+        _ => encoded(record).len(),
     });
     let groups = groups(observed);
     FIXED_ROOM + entries.sum::<usize>() + groups.iter().map(Vec::len).sum::<usize>()
@@ -37,7 +37,7 @@ pub fn layout(observed: &Observed) -> Layout {
     let stored = observed.records.iter().filter_map(|record| match record {
         MetadataRecord::V1FeaturesEpoch(_) | MetadataRecord::V1KRaftVersion(_) => None,
         MetadataRecord::V1Topic(topic) => Some(topic_entry(record, observed.named[&topic.name])),
-        _ => Some(bytes(record)),
+        _ => Some(encoded(record)),
     });
     Layout {
         epoch: observed.epoch,
@@ -48,7 +48,7 @@ pub fn layout(observed: &Observed) -> Layout {
 
 /// A topic's entry: its record with tag 5, four zeros and the flag.
 pub fn topic_entry(record: &MetadataRecord, named: bool) -> Vec<u8> {
-    let mut entry = bytes(record);
+    let mut entry = encoded(record);
     entry.extend([5, 0, 5, 0, 0, 0, 0, u8::from(named)]);
     let body = u16::try_from(entry.len() - 3).expect("a topic is short");
     entry[1..3].copy_from_slice(&body.to_be_bytes());
@@ -72,7 +72,10 @@ fn groups(observed: &Observed) -> Vec<Vec<u8>> {
             config_value: None,
         })
     });
-    configs.chain(quotas).map(|record| bytes(&record)).collect()
+    configs
+        .chain(quotas)
+        .map(|record| encoded(&record))
+        .collect()
 }
 
 fn empty_config(node_id: NodeId) -> MetadataRecord {
@@ -81,8 +84,4 @@ fn empty_config(node_id: NodeId) -> MetadataRecord {
         config_name: String::new(),
         config_value: None,
     })
-}
-
-fn bytes(record: &MetadataRecord) -> Vec<u8> {
-    encode(record).expect("an image holds no record that 01 leaves out")
 }

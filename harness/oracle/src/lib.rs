@@ -1,7 +1,7 @@
 //! The reference's answers in the scope paper's (01's) terms: what an image
 //! holds, in 01's order, and its bytes; whether bytes are an image; verdicts as
 //! 01's numbers; the listing for a downgrade;
-//! generated histories; the stored histories of crates/replay; facts.
+//! generated histories; the stored histories of crates/test_replay; facts.
 
 pub mod cases;
 pub mod downgrade;
@@ -14,4 +14,5 @@ pub mod layout;
 pub mod observe;
 pub mod order;
 pub mod replay;
+pub mod stored;
 pub mod verdict;

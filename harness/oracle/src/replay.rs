@@ -1,4 +1,4 @@
-//! The stored input of the program `crates/replay` and its expected output: 01's
+//! The stored input of the program `crates/test_replay` and its expected output: 01's
 //! cases that are checked by hand, then generated histories at several
 //! capacities, with cuts, snapshots, lookups and downgrades, and what the
 //! reference makes of them. Verdicts are the reference's `validate`, images its
@@ -10,6 +10,7 @@ mod lines;
 mod plan;
 mod run;
 
+use crate::stored::Stored;
 use lines::Lines;
 use plan::Plan;
 
@@ -24,24 +25,12 @@ const THROTTLE: u8 = 7;
 const DOWNGRADE: u8 = 8;
 const PARTITION: u8 = 9;
 
-const NO_IMAGE: u8 = 1;
-const WRONG: u8 = 4;
-const OFFSET_LEAVES: u8 = 17;
-const NO_ROOM: u8 = 18;
-const TOO_SHORT: u8 = 19;
-
 const HISTORIES: u64 = 72;
 
 const HEAD: &str = "\
 # 01's cases that are checked by hand, and histories, in hexadecimal, one operation to a line; made by harness/oracle/src/replay.rs
 # The first byte says which: src/main.rt has the list. A line with a '#' names the next ones.
 ";
-
-/// The program's two files.
-pub struct Stored {
-    pub stdin: String,
-    pub stdout: String,
-}
 
 /// The two files, made anew.
 pub fn stored() -> Stored {
@@ -55,14 +44,4 @@ pub fn stored() -> Stored {
     }
     lines.check();
     lines.stored
-}
-
-fn random(seed: u64) -> impl FnMut() -> u64 {
-    let mut state = seed;
-    move || {
-        state = state
-            .wrapping_mul(6364136223846793005)
-            .wrapping_add(1442695040888963407);
-        state >> 11
-    }
 }

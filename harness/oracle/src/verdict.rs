@@ -1,8 +1,14 @@
-//! The reference's verdicts as 01's numbers.
+//! The reference's verdicts as 01's numbers, and the numbers that it has none for.
 
 use krabka_metadata::{MetadataError, MetadataImage, MetadataRecord};
 
 pub const ACCEPTED: u8 = 0;
+/// The buffer is no image.
+pub const NO_IMAGE: u8 = 1;
+/// The offset's sum leaves i64.
+pub const NO_OFFSET: u8 = 17;
+/// The weight afterwards exceeds the capacity.
+pub const NO_ROOM: u8 = 18;
 
 /// What `validate` says, as 01 numbers it: 0, or 6 to 16.
 pub fn verdict(image: &MetadataImage, record: &MetadataRecord) -> u8 {

@@ -1,10 +1,7 @@
 //! 01's snapshot order, on lists that are written down in it.
 
-use krabka_metadata::{
-    BreakGlassAction, BreakGlassProposalRecord, BrokerConfigRecord, ClientQuotaRecord,
-    LeaderRecoveryState, MetadataImage, MetadataRecord, NodeId, PartitionRecoveryRecord,
-    PatternType, QuotaEntity, TopicFreezeRecord,
-};
+use krabka_metadata::{MetadataImage, MetadataRecord, PatternType};
+use oracle::facts::build::{Entities, broker_config, freeze, proposal, quota, recovering};
 use oracle::generate::{Generator, Knobs};
 use oracle::kind::kind;
 use oracle::observe::{Witness, observe, same_records};
@@ -19,60 +16,15 @@ fn assert_ordered(ordered: &[MetadataRecord]) {
 }
 
 fn config(node: u64, name: &str) -> MetadataRecord {
-    MetadataRecord::V1BrokerConfig(BrokerConfigRecord {
-        node_id: NodeId(node),
-        config_name: name.to_owned(),
-        config_value: Some(String::new()),
-    })
+    broker_config(node, name, Some(""))
 }
 
-fn recovering(topic: &str, partition: i32) -> MetadataRecord {
-    MetadataRecord::V1PartitionRecovery(PartitionRecoveryRecord {
-        topic: topic.to_owned(),
-        partition,
-        state: LeaderRecoveryState::Recovering,
-    })
+fn rate(entities: Entities, key: &str) -> MetadataRecord {
+    quota(entities, key, Some(f64::NAN))
 }
 
-fn quota(entities: &[(&str, Option<&str>)], key: &str) -> MetadataRecord {
-    let entity = |(entity_type, entity_name): &(&str, Option<&str>)| QuotaEntity {
-        entity_type: entity_type.to_string(),
-        entity_name: entity_name.map(str::to_owned),
-    };
-    MetadataRecord::V1ClientQuota(ClientQuotaRecord {
-        entity: entities.iter().map(entity).collect(),
-        config_key: key.to_owned(),
-        config_value: Some(f64::NAN),
-    })
-}
-
-fn freeze(pattern_type: PatternType, scope: &str) -> MetadataRecord {
-    MetadataRecord::V1TopicFreeze(TopicFreezeRecord {
-        scope: scope.to_owned(),
-        pattern_type,
-        frozen: true,
-        reason: String::new(),
-        set_by: String::new(),
-        set_at_ms: 0,
-        proposal_id: Uuid::nil(),
-        key_id: String::new(),
-        signature: Vec::new(),
-    })
-}
-
-fn proposal(high: u64, low: u64) -> MetadataRecord {
-    MetadataRecord::V1BreakGlassProposal(BreakGlassProposalRecord {
-        proposal_id: Uuid::from_u64_pair(high, low),
-        action: BreakGlassAction::DeleteTopic,
-        target: String::new(),
-        proposer: String::new(),
-        reason: String::new(),
-        created_at_ms: 0,
-        expires_at_ms: 0,
-        approvals: Vec::new(),
-        consumed_at_ms: 0,
-        withdrawn: false,
-    })
+fn proposed(high: u64, low: u64) -> MetadataRecord {
+    MetadataRecord::V1BreakGlassProposal(proposal(Uuid::from_u64_pair(high, low)))
 }
 
 #[test]
@@ -106,35 +58,35 @@ fn partitions_go_by_topic_and_value() {
 #[test]
 fn entities_go_element_by_element() {
     assert_ordered(&[
-        quota(&[], "z"),
-        quota(&[("ip", None)], "a"),
-        quota(&[("ip", None)], "b"),
-        quota(&[("ip", None), ("ip", None)], "a"),
-        quota(&[("ip", None), ("user", None)], "a"),
-        quota(&[("ip", Some(""))], "a"),
-        quota(&[("ip", Some("b")), ("ip", Some("a"))], "a"),
-        quota(&[("ip", Some("c"))], "a"),
-        quota(&[("ipa", None)], "a"),
+        rate(&[], "z"),
+        rate(&[("ip", None)], "a"),
+        rate(&[("ip", None)], "b"),
+        rate(&[("ip", None), ("ip", None)], "a"),
+        rate(&[("ip", None), ("user", None)], "a"),
+        rate(&[("ip", Some(""))], "a"),
+        rate(&[("ip", Some("b")), ("ip", Some("a"))], "a"),
+        rate(&[("ip", Some("c"))], "a"),
+        rate(&[("ipa", None)], "a"),
     ]);
 }
 
 #[test]
 fn literal_scopes_go_before_prefixed_ones() {
     assert_ordered(&[
-        freeze(PatternType::Literal, "a"),
-        freeze(PatternType::Literal, "z"),
-        freeze(PatternType::Prefixed, ""),
-        freeze(PatternType::Prefixed, "b"),
+        freeze("a", PatternType::Literal),
+        freeze("z", PatternType::Literal),
+        freeze("", PatternType::Prefixed),
+        freeze("b", PatternType::Prefixed),
     ]);
 }
 
 #[test]
 fn ids_go_by_bytes() {
     assert_ordered(&[
-        proposal(0, 1),
-        proposal(0, u64::MAX),
-        proposal(1, 0),
-        proposal(u64::MAX, 0),
+        proposed(0, 1),
+        proposed(0, u64::MAX),
+        proposed(1, 0),
+        proposed(u64::MAX, 0),
     ]);
 }
 

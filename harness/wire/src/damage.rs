@@ -2,6 +2,7 @@
 
 use std::ops::Range;
 
+use crate::random::Random;
 use crate::read::HEADER;
 use crate::run::Run;
 use crate::table::{Form, Row, shape};
@@ -9,20 +10,20 @@ use crate::table::{Form, Row, shape};
 /// A damaged copy of a record, by one random change. Where bytes come or go,
 /// the lengths around them are mostly set right, so that the reader meets the
 /// change itself. Any bytes may be given, also damaged ones.
-pub fn damaged(rng: &mut impl FnMut() -> u64, good: &[u8]) -> Vec<u8> {
+pub fn damaged(random: &mut Random, good: &[u8]) -> Vec<u8> {
     let mut bytes = good.to_vec();
     let places = places(good);
-    let field = &places[below(rng, places.len())];
-    match below(rng, 9) {
-        0 => cut(rng, &mut bytes),
-        1 => change_byte(rng, &mut bytes),
-        2 => change_length(rng, &mut bytes, field),
-        3 => swap_tags(&mut bytes, field, &places[below(rng, places.len())]),
+    let field = &places[random.below(places.len())];
+    match random.below(9) {
+        0 => cut(random, &mut bytes),
+        1 => change_byte(random, &mut bytes),
+        2 => change_length(random, &mut bytes, field),
+        3 => swap_tags(&mut bytes, field, &places[random.below(places.len())]),
         4 => swap_with_next(&mut bytes, field, &places),
-        5 => repeat(rng, &mut bytes, field),
+        5 => repeat(random, &mut bytes, field),
         6 => replace(&mut bytes, field.start..field.end, &[], &field.lengths),
-        7 => insert(rng, &mut bytes, field),
-        _ => append(rng, &mut bytes),
+        7 => insert(random, &mut bytes, field),
+        _ => append(random, &mut bytes),
     }
     bytes
 }
@@ -69,15 +70,6 @@ fn add_places(places: &mut Vec<Place>, rows: &[Row], run: &[u8], at: usize, leng
     }
 }
 
-/// A number below the bound, 0 where there is none.
-fn below(rng: &mut impl FnMut() -> u64, bound: usize) -> usize {
-    (rng() % bound.max(1) as u64) as usize
-}
-
-fn byte(rng: &mut impl FnMut() -> u64) -> u8 {
-    below(rng, 256) as u8
-}
-
 /// Adds to the two-byte length at the place, if the bytes go so far.
 fn add_to_length(bytes: &mut [u8], at: usize, number: u16) {
     if let Some(length) = bytes.get_mut(at..at + 2) {
@@ -96,23 +88,23 @@ fn replace(bytes: &mut Vec<u8>, place: Range<usize>, by: &[u8], lengths: &[usize
 }
 
 /// Cuts the end off; in half of the cases the record's own length agrees.
-fn cut(rng: &mut impl FnMut() -> u64, bytes: &mut Vec<u8>) {
+fn cut(random: &mut Random, bytes: &mut Vec<u8>) {
     let length = bytes.len();
-    let start = below(rng, length);
-    let lengths = &[1][..below(rng, 2)];
+    let start = random.below(length);
+    let lengths = &[1][..random.below(2)];
     replace(bytes, start..length, &[], lengths);
 }
 
-fn change_byte(rng: &mut impl FnMut() -> u64, bytes: &mut [u8]) {
-    let place = below(rng, bytes.len());
+fn change_byte(random: &mut Random, bytes: &mut [u8]) {
+    let place = random.below(bytes.len());
     if let Some(changed) = bytes.get_mut(place) {
-        *changed = byte(rng);
+        *changed = random.byte();
     }
 }
 
 /// Makes a field's length one too many, one too few, or anything.
-fn change_length(rng: &mut impl FnMut() -> u64, bytes: &mut [u8], field: &Place) {
-    let number = [1, u16::MAX, rng() as u16][below(rng, 3)];
+fn change_length(random: &mut Random, bytes: &mut [u8], field: &Place) {
+    let number = [1, u16::MAX, random.bits() as u16][random.below(3)];
     add_to_length(bytes, field.start + 1, number);
 }
 
@@ -131,26 +123,30 @@ fn swap_with_next(bytes: &mut [u8], field: &Place, places: &[Place]) {
 }
 
 /// Adds copies of a field behind it; the numbers are the limits of elements.
-fn repeat(rng: &mut impl FnMut() -> u64, bytes: &mut Vec<u8>, field: &Place) {
-    let times = [1, 8, 16, 64][below(rng, 4)];
+fn repeat(random: &mut Random, bytes: &mut Vec<u8>, field: &Place) {
+    let times = [1, 8, 16, 64][random.below(4)];
     let copies = bytes[field.start..field.end].repeat(times);
     replace(bytes, field.end..field.end, &copies, &field.lengths);
 }
 
 /// Puts equal bytes into a field's value; in one of four cases no length agrees.
 /// 256 are over a string's limit, and 1040, which are 65 ids, over any.
-fn insert(rng: &mut impl FnMut() -> u64, bytes: &mut Vec<u8>, field: &Place) {
-    let number = [1, 16, 256, 1040][below(rng, 4)];
-    let inserted = vec![byte(rng); number];
+fn insert(random: &mut Random, bytes: &mut Vec<u8>, field: &Place) {
+    let number = [1, 16, 256, 1040][random.below(4)];
+    let inserted = vec![random.byte(); number];
     let value = (field.end - field.start).saturating_sub(HEADER);
-    let at = field.end - below(rng, value + 1);
+    let at = field.end - random.below(value + 1);
     let lengths = [&field.lengths[..], &[field.start + 1]].concat();
-    let agreeing = if below(rng, 4) == 0 { 0 } else { lengths.len() };
+    let agreeing = if random.below(4) == 0 {
+        0
+    } else {
+        lengths.len()
+    };
     replace(bytes, at..at, &inserted, &lengths[..agreeing]);
 }
 
-fn append(rng: &mut impl FnMut() -> u64, bytes: &mut Vec<u8>) {
-    for _ in 0..=below(rng, 16) {
-        bytes.push(byte(rng));
+fn append(random: &mut Random, bytes: &mut Vec<u8>) {
+    for _ in 0..=random.below(16) {
+        bytes.push(random.byte());
     }
 }

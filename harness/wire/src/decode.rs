@@ -5,35 +5,9 @@ use std::iter::Peekable;
 use krabka_metadata::*;
 use uuid::Uuid;
 
+use crate::choices::*;
 use crate::read::{HEADER, read};
 use crate::run::Run;
-
-/// Enumerations in declaration order: the byte is the place.
-const PROTOCOLS: [ListenerProtocol; 4] = [
-    ListenerProtocol::Plaintext,
-    ListenerProtocol::Ssl,
-    ListenerProtocol::SaslPlaintext,
-    ListenerProtocol::SaslSsl,
-];
-const PATTERN_TYPES: [PatternType; 2] = [PatternType::Literal, PatternType::Prefixed];
-const ACTIONS: [BreakGlassAction; 7] = [
-    BreakGlassAction::ThawTopicFreeze,
-    BreakGlassAction::UncleanElectLeaders,
-    BreakGlassAction::UncleanRecovery,
-    BreakGlassAction::UnregisterBroker,
-    BreakGlassAction::CancelReassignment,
-    BreakGlassAction::DeleteTopic,
-    BreakGlassAction::DeleteRecords,
-];
-const RECOVERY_STATES: [LeaderRecoveryState; 2] = [
-    LeaderRecoveryState::Recovered,
-    LeaderRecoveryState::Recovering,
-];
-const FENCING_CHANGES: [FencingChange; 3] = [
-    FencingChange::Unfence,
-    FencingChange::None,
-    FencingChange::Fence,
-];
 
 /// Reads the record at the start of `input`: its value and the bytes that it
 /// takes, or `read`'s refusal.

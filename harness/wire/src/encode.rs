@@ -42,17 +42,28 @@ pub fn encode(record: &MetadataRecord) -> Option<Vec<u8>> {
         V1UnregisterController(record) => (25, Fields::new().node(record.node_id)),
         _ => return None,
     };
-    let mut bytes = Vec::new();
-    put(&mut bytes, kind, &fields.bytes);
-    Some(bytes)
+    Some(field(kind, &fields.bytes))
 }
 
-/// Appends a kind or tag, the length and the bytes.
-fn put(out: &mut Vec<u8>, first: u8, bytes: &[u8]) {
+/// The bytes of a record that has some.
+///
+/// # Panics
+///
+/// Where it has none.
+pub fn encoded(record: &MetadataRecord) -> Vec<u8> {
+    encode(record).expect("a kind that 01 has")
+}
+
+/// The records' bytes, back to back.
+pub fn encoded_all(records: &[MetadataRecord]) -> Vec<u8> {
+    records.iter().flat_map(encoded).collect()
+}
+
+/// A field of a tag, or the record of a kind: the tag or kind, the length, and
+/// the bytes.
+pub fn field(first: u8, bytes: &[u8]) -> Vec<u8> {
     let length = u16::try_from(bytes.len()).expect("a length of at most two bytes");
-    out.push(first);
-    out.extend(length.to_be_bytes());
-    out.extend(bytes);
+    [&[first], &length.to_be_bytes()[..], bytes].concat()
 }
 
 /// The fields of a run. Each method that writes a field gives it the next tag,
@@ -80,7 +91,7 @@ impl Fields {
     fn each(mut self, values: impl IntoIterator<Item = impl AsRef<[u8]>>) -> Self {
         self.tag += 1;
         for value in values {
-            put(&mut self.bytes, self.tag, value.as_ref());
+            self.bytes.extend(field(self.tag, value.as_ref()));
         }
         self
     }

@@ -1,9 +1,12 @@
 //! The record bytes of docs/FORMAT.md: the shape table, a reader, and the
-//! reference's records to bytes and back.
+//! reference's records to bytes and back, damaged copies, and random numbers.
 
+pub mod choices;
 mod damage;
 mod decode;
 mod encode;
+mod hex;
+mod random;
 mod read;
 mod run;
 pub mod table;
@@ -11,7 +14,9 @@ mod write;
 
 pub use damage::damaged;
 pub use decode::decode;
-pub use encode::encode;
+pub use encode::{encode, encoded, encoded_all, field};
+pub use hex::hex;
+pub use random::Random;
 pub use read::{HEADER, OVER_A_LIMIT, PAST_THE_END, UNKNOWN_KIND, WRONG_FIELD, read};
 pub use run::Run;
-pub use write::{TOO_SHORT, write};
+pub use write::{Lists, TOO_SHORT, write};

@@ -1,26 +1,52 @@
 //! Write: a record's bytes from its fields.
 
+use crate::encode::field;
 use crate::read::{UNKNOWN_KIND, check_run};
+use crate::run::Run;
 use crate::table::shape;
 
 /// The output is too short.
 pub const TOO_SHORT: u8 = 19;
 
-/// Writes the record of a kind with the fields of three lists: the tags, the
-/// lengths, and the values back to back. The bytes written, or the refusal's
+/// What Write is given: a kind, and the fields of a record in three lists, the
+/// tags, the lengths, and the values back to back.
+#[derive(Debug)]
+pub struct Lists {
+    pub kind: u8,
+    pub tags: Vec<u8>,
+    pub lengths: Vec<u16>,
+    pub values: Vec<u8>,
+}
+
+impl Lists {
+    /// The fields of a record.
+    pub fn of(record: &[u8]) -> Self {
+        let (kind, body) = Run::new(record)
+            .next()
+            .and_then(Result::ok)
+            .unwrap_or((0, &[]));
+        let mut lists = Self {
+            kind,
+            tags: Vec::new(),
+            lengths: Vec::new(),
+            values: Vec::new(),
+        };
+        for (tag, value) in Run::new(body).map_while(Result::ok) {
+            lists.tags.push(tag);
+            lists.lengths.push(value.len() as u16);
+            lists.values.extend(value);
+        }
+        lists
+    }
+}
+
+/// Writes the record of these fields. The bytes written, or the refusal's
 /// number; a refusal leaves the output as it is.
-pub fn write(
-    kind: u8,
-    tags: &[u8],
-    lengths: &[u16],
-    values: &[u8],
-    out: &mut [u8],
-) -> Result<usize, u8> {
-    let shape = shape(kind).ok_or(UNKNOWN_KIND)?;
-    let body = gathered(tags, lengths, values);
+pub fn write(lists: &Lists, out: &mut [u8]) -> Result<usize, u8> {
+    let shape = shape(lists.kind).ok_or(UNKNOWN_KIND)?;
+    let body = gathered(&lists.tags, &lists.lengths, &lists.values);
     check_run(shape.rows, &body, None)?;
-    let length = u16::try_from(body.len()).expect("the limits keep a body below 65,536");
-    let record = [&[kind][..], &length.to_be_bytes(), &body].concat();
+    let record = field(lists.kind, &body);
     let place = out.get_mut(..record.len()).ok_or(TOO_SHORT)?;
     place.copy_from_slice(&record);
     Ok(record.len())

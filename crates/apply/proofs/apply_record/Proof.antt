@@ -2,7 +2,7 @@
 use borrow.Author.Needs.{needs}
 use mathlib.Core.Path.{refl, sym, ap, _∙_, subst}
 use lib.ListN.{length}
-use Rattle.attempt.specs.Step.{outcome, StillHolding}
+use Rattle.apply_step.specs.Step.{outcome, StillHolding}
 use Rattle.apply.proofs.Applying.{laid-refused, laid-moved}
 use native.Mathlib.Omega.{arith}
 use Rattle.apply.proofs.apply_record.Statement.{statement}

@@ -1,6 +1,6 @@
 -- `downgrade::emit_listed` meets its contract.
 use borrow.Author.Needs.{needs}
-use Rattle.reals.proofs.Lent.{lent-entries}
+use Rattle.find.proofs.Lent.{lent-entries}
 use Rattle.downgrade.proofs.Emits.{lent-short, too-short, fits, emitted}
 use Rattle.downgrade.proofs.emit_listed.Statement.{statement}
 use Rattle.downgrade.proofs.emit_listed.Tie as tie

@@ -7,7 +7,7 @@ use lib.ListN.{length}
 use Rattle.model.specs.Number.{AreBytes}
 use Rattle.keys.proofs.Keys.{known-bytes}
 use Rattle.entries.proofs.Turns.{Stands, stands, ended, not-torn, turn-falls}
-use Rattle.stored.proofs.Turns.{forward, inside, is-record}
+use Rattle.image_entries.proofs.Turns.{forward, inside, is-record}
 use Rattle.downgrade.proofs.Passes.{Counted, count-start, count-fits, count-turn, counted}
 use Rattle.downgrade.proofs.listed_length.Statement.{statement}
 use Rattle.downgrade.proofs.listed_length.Tie as tie

@@ -2,7 +2,7 @@
 use borrow.Author.Needs.{needs}
 use mathlib.Core.Path.{refl}
 use native.Mathlib.Omega.{arith}
-use Rattle.stored.proofs.Records.{headed}
+use Rattle.image_entries.proofs.Records.{headed}
 use Rattle.downgrade.proofs.ByKind.{of-broker, of-other, of-known, of-partition, listed-size}
 use Rattle.downgrade.proofs.listed_size.Statement.{statement}
 use Rattle.downgrade.proofs.listed_size.Tie as tie

@@ -1,7 +1,7 @@
 -- `downgrade::put_listed` meets its contract.
 use borrow.Author.Needs.{needs}
 use native.Mathlib.Omega.{arith}
-use Rattle.stored.proofs.Records.{headed}
+use Rattle.image_entries.proofs.Records.{headed}
 use Rattle.downgrade.proofs.ByKind.{of-broker, of-other, of-known, of-partition, listed-fits, listed-put, none-put}
 use Rattle.downgrade.proofs.put_listed.Statement.{statement}
 use Rattle.downgrade.proofs.put_listed.Tie as tie

@@ -2,7 +2,7 @@
 use borrow.Author.Needs.{needs}
 use mathlib.Core.Path.{ap, _∙_}
 use Rattle.model.specs.Snapshot.{emit}
-use Rattle.reals.proofs.Lent.{lent-entries, lent-kept}
+use Rattle.find.proofs.Lent.{lent-entries, lent-kept}
 use Rattle.lookup.proofs.Answers.{lent-found}
 use Rattle.lookup.proofs.entry.Statement.{statement}
 use Rattle.lookup.proofs.entry.Tie as tie

@@ -1,7 +1,7 @@
 -- `lookup::freeze` meets its contract.
 use borrow.Author.Needs.{needs}
 use mathlib.Core.Path.{sym, _∙_}
-use Rattle.reals.proofs.Lent.{lent-entries, lent-kept, lent-held}
+use Rattle.find.proofs.Lent.{lent-entries, lent-kept, lent-held}
 use Rattle.lookup.proofs.Answers.{name-fits, freeze-no-image, freeze-refused, image-is, freeze-found}
 use Rattle.lookup.proofs.freeze.Statement.{statement}
 use Rattle.lookup.proofs.freeze.Tie as tie

@@ -1,9 +1,9 @@
 -- `lookup::rate` meets its contract.
 use borrow.Author.Needs.{needs}
 use mathlib.Core.Path.{sym, ap, _∙_}
-use Rattle.rates.specs.Rates.{rated}
+use Rattle.lookup_rates.specs.Rates.{rated}
 use Rattle.lookup.specs.Values.{ratedAs}
-use Rattle.reals.proofs.Lent.{lent-entries}
+use Rattle.find.proofs.Lent.{lent-entries}
 use Rattle.lookup.proofs.Answers.{rate-as}
 use Rattle.lookup.proofs.rate.Statement.{statement}
 use Rattle.lookup.proofs.rate.Tie as tie

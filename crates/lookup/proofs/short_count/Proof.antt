@@ -1,6 +1,6 @@
 -- `lookup::short_count` meets its contract.
 use borrow.Author.Needs.{needs}
-use Rattle.reals.proofs.Lent.{lent-entries, lent-held}
+use Rattle.find.proofs.Lent.{lent-entries, lent-held}
 use Rattle.lookup.proofs.Answers.{short-no-image, image-is, short-found}
 use Rattle.lookup.proofs.short_count.Statement.{statement}
 use Rattle.lookup.proofs.short_count.Tie as tie

@@ -1,6 +1,6 @@
 -- `lookup::topic_by_id` meets its contract.
 use borrow.Author.Needs.{needs}
-use Rattle.reals.proofs.Lent.{lent-entries, lent-kept, lent-held}
+use Rattle.find.proofs.Lent.{lent-entries, lent-kept, lent-held}
 use Rattle.lookup.proofs.Answers.{id-no-image, image-is, id-found}
 use Rattle.lookup.proofs.topic_by_id.Statement.{statement}
 use Rattle.lookup.proofs.topic_by_id.Tie as tie

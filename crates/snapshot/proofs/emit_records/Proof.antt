@@ -1,6 +1,6 @@
 -- `snapshot::emit_records` meets its contract.
 use borrow.Author.Needs.{needs}
-use Rattle.reals.proofs.Lent.{lent-entries, lent-kept}
+use Rattle.find.proofs.Lent.{lent-entries, lent-kept}
 use Rattle.snapshot.proofs.Emits.{too-short, entries-fit, emitted}
 use Rattle.snapshot.proofs.emit_records.Statement.{statement}
 use Rattle.snapshot.proofs.emit_records.Tie as tie

@@ -6,7 +6,7 @@ use lib.ListN.{length}
 use Rattle.model.specs.Number.{AreBytes}
 use Rattle.keys.proofs.Keys.{known-bytes}
 use Rattle.entries.proofs.Turns.{Stands, stands, ended, not-torn, turn-falls}
-use Rattle.stored.proofs.Turns.{forward, inside}
+use Rattle.image_entries.proofs.Turns.{forward, inside}
 use Rattle.snapshot.proofs.Passes.{here-entire, Counted, count-start, counted, count-fits, count-turn}
 use Rattle.snapshot.proofs.shown_length.Statement.{statement}
 use Rattle.snapshot.proofs.shown_length.Tie as tie

@@ -4,7 +4,7 @@ use native.Mathlib.Omega.{arith}
 use mathlib.Core.Path.{sym, ap, _∙_}
 use Rattle.keys.proofs.Keys.{known-bytes}
 use Rattle.records.specs.Answers.{replied}
-use Rattle.reals.proofs.Lent.{lent-entries}
+use Rattle.find.proofs.Lent.{lent-entries}
 use Rattle.validate.proofs.Verdicts.{record-length, record-logged, no-image, image-is, read-refused, judged}
 use Rattle.validate.proofs.validate.Statement.{statement}
 use Rattle.validate.proofs.validate.Tie as tie

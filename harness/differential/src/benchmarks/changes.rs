@@ -7,7 +7,7 @@ use krabka_metadata::{MetadataImage, MetadataRecord};
 use oracle::facts::build::broker;
 use oracle::verdict::verdict;
 use uuid::Uuid;
-use wire::encode;
+use wire::encoded;
 
 use super::rows::Timed;
 use crate::images::Full;
@@ -61,7 +61,7 @@ pub fn exact(name: &'static str, bytes: &[u8]) -> Timed {
 
 /// The topic is refused, since it exists.
 fn validated(full: &Full, name: &'static str, record: &MetadataRecord) -> Timed {
-    let input = encode(record).expect("a kind that 01 has");
+    let input = encoded(record);
     let expected = verdict(&full.image, record);
     assert_eq!(validate(&full.bytes, &input), expected, "{name}");
     Timed::of(
@@ -73,7 +73,7 @@ fn validated(full: &Full, name: &'static str, record: &MetadataRecord) -> Timed 
 }
 
 fn applied(full: &Full, name: &'static str, record: &MetadataRecord) -> Timed {
-    let input = encode(record).expect("a kind that 01 has");
+    let input = encoded(record);
     let mut bytes = full.bytes.clone();
     let mut image = full.image.clone();
     assert_eq!(apply(&mut bytes, &input), 0, "{name}");

@@ -3,8 +3,10 @@
 
 use std::hint::black_box;
 
+use wire::Lists;
+
 use super::times::Times;
-use crate::{Lists, read, typical, write};
+use crate::{read, typical, write};
 
 /// A typical record.
 pub struct Record {
@@ -45,17 +47,11 @@ fn measured(name: &'static str, bytes: &[u8]) -> Record {
 
 /// Writes the record from its own fields.
 fn written(bytes: &[u8]) -> Times {
-    let Lists {
-        kind,
-        tags,
-        lengths,
-        values,
-        ..
-    } = Lists::of(bytes);
+    let lists = Lists::of(bytes);
     let (mut ours, mut theirs) = (vec![0; bytes.len()], vec![0; bytes.len()]);
     let times = Times::of(
-        || write(kind, &tags, &lengths, black_box(&values), &mut ours),
-        || wire::write(kind, &tags, &lengths, black_box(&values), &mut theirs),
+        || write(black_box(&lists), &mut ours),
+        || wire::write(black_box(&lists), &mut theirs),
     );
     assert_eq!((&ours[..], &theirs[..]), (bytes, bytes));
     times

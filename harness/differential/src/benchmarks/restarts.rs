@@ -7,7 +7,7 @@ use krabka_metadata::{MetadataImage, MetadataRecord};
 use oracle::image::image;
 use oracle::{downgrade, order};
 use uuid::Uuid;
-use wire::{decode, encode};
+use wire::{decode, encoded_all};
 
 use super::rows::Timed;
 use crate::images::{Full, Subject};
@@ -72,7 +72,7 @@ fn listed(full: &Full) -> Timed {
 pub fn snapshot(image: &MetadataImage) -> Vec<u8> {
     let mut records = image.to_records();
     order::sort(&mut records);
-    encoded(&records)
+    encoded_all(&records)
 }
 
 fn rebuilt(input: &[u8]) -> MetadataImage {
@@ -85,21 +85,14 @@ fn laid_out(input: &[u8], capacity: usize) -> Option<Vec<u8>> {
 }
 
 fn listing(image: &MetadataImage) -> Vec<u8> {
-    encoded(&downgrade::downgrade(image, LEVEL))
+    encoded_all(&downgrade::downgrade(image, LEVEL))
 }
 
 /// The records from the last to the first: no snapshot has this order, so that
 /// they are restored one by one.
 fn turned(snapshot: &[u8]) -> Vec<u8> {
     let records: Vec<MetadataRecord> = decoded(snapshot).into_iter().rev().collect();
-    encoded(&records)
-}
-
-pub fn encoded(records: &[MetadataRecord]) -> Vec<u8> {
-    let encoded = records.iter().map(encode);
-    encoded
-        .flat_map(|record| record.expect("a kind that 01 has"))
-        .collect()
+    encoded_all(&records)
 }
 
 pub fn decoded(mut bytes: &[u8]) -> Vec<MetadataRecord> {

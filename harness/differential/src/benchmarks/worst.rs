@@ -4,8 +4,9 @@
 use krabka_metadata::{ClientQuotaRecord, MetadataRecord, QuotaEntity};
 use oracle::facts::build::topic;
 use oracle::image::image;
+use wire::encoded_all;
 
-use super::restarts::{decoded, encoded, restored, snapshot};
+use super::restarts::{decoded, restored, snapshot};
 use super::rows::Timed;
 use super::times::Times;
 use super::{SIZES, changes};
@@ -44,7 +45,7 @@ impl Worst {
 
 pub fn measure(full: &Full) -> Vec<Worst> {
     let moved = last_first(&snapshot(&full.image));
-    let groups = encoded(&empty_groups());
+    let groups = encoded_all(&empty_groups());
     vec![
         Worst::of(
             "exact test",
@@ -97,7 +98,7 @@ fn empty_groups() -> Vec<MetadataRecord> {
 fn last_first(snapshot: &[u8]) -> Vec<u8> {
     let mut records = decoded(snapshot);
     records.rotate_right(1);
-    encoded(&records)
+    encoded_all(&records)
 }
 
 /// Two characters; those of a greater number come later.

@@ -1,8 +1,4 @@
-//! Compares histories with cuts of the proved library with the reference, and,
-//! as long as the theorem's premises hold, with the same histories uncut: as
-//! many generated ones as the first argument says (default: 100), from the seed
-//! that the second says (default: 1). Each ends with Restores of bytes that no
-//! snapshot wrote. Ends with 1 at the first difference.
+//! Compares histories with cuts: `--help` says what is compared.
 //!
 //!     cargo run --release --features images --bin compare_cuts -- 100 1
 
@@ -10,14 +6,24 @@ use std::process::ExitCode;
 
 use differential::histories::compare_cuts;
 use differential::images::Tally;
-use differential::{Asked, ended};
+use differential::{Asked, Comparison};
+
+const CUTS: Comparison = Comparison {
+    name: "compare_cuts",
+    drawn: "histories",
+    count: 100,
+    about: "Compares histories with cuts of the proved library with the reference, and, as\n\
+            long as the theorem's premises hold, with the same histories uncut. Each ends\n\
+            with Restores of bytes that no snapshot wrote.",
+};
 
 fn main() -> ExitCode {
-    let asked = Asked::from_args();
-    let mut tally = Tally::default();
-    let compared = asked.each(|seed| compare_cuts(&mut tally, seed));
-    let Asked { histories, seed } = asked;
-    ended(compared, || {
-        format!("{histories} histories with cuts from seed {seed}, all equal\n{tally}")
+    CUTS.run(|asked| {
+        let mut tally = Tally::default();
+        asked.each(|seed| compare_cuts(&mut tally, seed))?;
+        let Asked { count, seed } = asked;
+        Ok(format!(
+            "{count} histories with cuts from seed {seed}, all equal\n{tally}"
+        ))
     })
 }

@@ -1,28 +1,35 @@
-//! Compares Open, the exact test, Validate, the lookups, Snapshot and the listing
-//! for a downgrade of the proved library with the
-//! harness's own answers and the reference's images, on as many generated
-//! histories as the first argument says (default: 100), from the seed that the
-//! second says (default: 1). Ends with 1 at the first difference.
+//! Compares the operations on images: `--help` says what is compared.
 //!
 //!     cargo run --release --features images --bin compare_images -- 100 1
 
 use std::process::ExitCode;
 
 use differential::images::{
-    Compared, Tally, compare_cases, compare_history, compare_listing, compare_open, compare_random,
+    Tally, compare_cases, compare_history, compare_listing, compare_open, compare_random,
 };
-use differential::{Asked, ended};
+use differential::{Asked, Compared, Comparison};
 
 /// The random buffers for each history.
 const RANDOM: u64 = 20;
 
+const IMAGES: Comparison = Comparison {
+    name: "compare_images",
+    drawn: "histories",
+    count: 100,
+    about: "Compares Open, the exact test, Validate, the lookups, Snapshot and the listing\n\
+            for a downgrade of the proved library with the harness's own answers and the\n\
+            reference's images: on named cases, on the images of drawn histories and buffers\n\
+            near them, and on random buffers.",
+};
+
 fn main() -> ExitCode {
-    let asked = Asked::from_args();
-    let mut tally = Tally::default();
-    let compared = compare(&mut tally, &asked);
-    let Asked { histories, seed } = asked;
-    ended(compared, || {
-        format!("{histories} histories from seed {seed}, all equal\n{tally}")
+    IMAGES.run(|asked| {
+        let mut tally = Tally::default();
+        compare(&mut tally, asked)?;
+        let Asked { count, seed } = asked;
+        Ok(format!(
+            "{count} histories from seed {seed}, all equal\n{tally}"
+        ))
     })
 }
 

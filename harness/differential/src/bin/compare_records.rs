@@ -1,59 +1,71 @@
-//! Compares Read and Write of the proved library with the harness's own, on as
-//! many inputs as the first argument says (default: one million), from the seed
-//! that the second says (default: 1). Each input is read, and its fields are
-//! written.
+//! Compares Read and Write: `--help` says what is compared.
+//!
+//!     cargo run --release --bin compare_records -- 1000000 1
 
-use std::env;
+use std::process::ExitCode;
 
-use differential::Inputs;
+use differential::{Asked, Compared, Comparison, Inputs};
+use wire::Lists;
 
-fn main() {
-    let mut args = env::args()
-        .skip(1)
-        .map(|arg| arg.parse().expect("a number"));
-    let count: u64 = args.next().unwrap_or(1_000_000);
-    let mut inputs = Inputs::new(args.next().unwrap_or(1));
-    let (mut read, mut written) = ([0u64; 256], [0u64; 256]);
-    for _ in 0..count {
-        let input = inputs.draw();
-        read[compare_read(&input)] += 1;
-        let lists = inputs.lists(&input);
-        written[compare_write(lists)] += 1;
+const RECORDS: Comparison = Comparison {
+    name: "compare_records",
+    drawn: "inputs",
+    count: 1_000_000,
+    about: "Compares Read and Write of the proved library with the harness's own, on records\n\
+            of drawn histories and on damaged copies of them. Each input is read, and its\n\
+            fields are written.",
+};
+
+/// How often each number was the answer.
+type Counts = [u64; 256];
+
+fn main() -> ExitCode {
+    RECORDS.run(|&Asked { count, seed }| {
+        let mut inputs = Inputs::new(seed);
+        let (mut read, mut written) = ([0; 256], [0; 256]);
+        for _ in 0..count {
+            let input = inputs.draw();
+            compare_read(&mut read, &input)?;
+            let (lists, out) = inputs.lists(&input);
+            compare_write(&mut written, &lists, out)?;
+        }
+        let (read, written) = (told("Read", &read), told("Write", &written));
+        Ok(format!("{count} inputs, all equal\n{read}{written}"))
+    })
+}
+
+/// Counts the number of an answer.
+fn count(counts: &mut Counts, answer: Result<usize, u8>) {
+    counts[answer.map_or_else(usize::from, |_| 0)] += 1;
+}
+
+fn compare_read(counts: &mut Counts, input: &[u8]) -> Compared {
+    let (answer, expected) = (differential::read(input), wire::read(input));
+    count(counts, expected);
+    match answer == expected {
+        true => Ok(()),
+        false => Err(format!(
+            "Read says {answer:?}, not {expected:?}, of {input:02x?}"
+        )),
     }
-    println!("{count} inputs, all equal");
-    report("Read", &read);
-    report("Write", &written);
 }
 
-fn number(answer: Result<usize, u8>) -> usize {
-    answer.map_or_else(usize::from, |_| 0)
-}
-
-fn compare_read(input: &[u8]) -> usize {
-    let expected = wire::read(input);
-    assert_eq!(differential::read(input), expected, "Read of {input:02x?}");
-    number(expected)
-}
-
-fn compare_write(lists: differential::Lists) -> usize {
-    let differential::Lists {
-        kind,
-        tags,
-        lengths,
-        values,
-        out,
-    } = lists;
+fn compare_write(counts: &mut Counts, lists: &Lists, out: Vec<u8>) -> Compared {
     let (mut ours, mut theirs) = (out.clone(), out);
-    let answer = differential::write(kind, &tags, &lengths, &values, &mut ours);
-    let expected = wire::write(kind, &tags, &lengths, &values, &mut theirs);
-    let given = || format!("Write of {kind} {tags:?} {lengths:?} {values:02x?}");
-    assert_eq!(answer, expected, "{}", given());
-    assert_eq!(ours, theirs, "{}", given());
-    number(expected)
+    let answer = differential::write(lists, &mut ours);
+    let expected = wire::write(lists, &mut theirs);
+    count(counts, expected);
+    match answer == expected && ours == theirs {
+        true => Ok(()),
+        false => Err(format!(
+            "Write says {answer:?}, not {expected:?}, or other bytes, of {lists:02x?}"
+        )),
+    }
 }
 
-fn report(operation: &str, counts: &[u64; 256]) {
-    for (number, count) in counts.iter().enumerate().filter(|(_, count)| **count > 0) {
-        println!("{operation} answered {number}: {count}");
-    }
+fn told(operation: &str, counts: &Counts) -> String {
+    let answered = counts.iter().enumerate().filter(|(_, count)| **count > 0);
+    answered
+        .map(|(number, count)| format!("{operation} answered {number}: {count}\n"))
+        .collect()
 }

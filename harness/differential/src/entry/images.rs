@@ -105,11 +105,13 @@ fn number(answer: u64) -> u8 {
     }
 }
 
-/// The bytes of the topic's record that were written, 0 where there is none.
-pub fn topic(image: &[u8], name: &[u8], out: &mut [u8]) -> Result<usize, u8> {
+/// A lookup by a name alone: an image, the name, and the output.
+type ByName = unsafe extern "C" fn(*const u8, usize, *const u8, usize, *mut u8, usize) -> u64;
+
+fn by_name(lookup: ByName, image: &[u8], name: &[u8], out: &mut [u8]) -> Result<usize, u8> {
     // SAFETY: each pointer and length are a slice's, and `out` is borrowed alone.
     unpacked(unsafe {
-        jeghatuf_topic(
+        lookup(
             image.as_ptr(),
             image.len(),
             name.as_ptr(),
@@ -118,6 +120,11 @@ pub fn topic(image: &[u8], name: &[u8], out: &mut [u8]) -> Result<usize, u8> {
             out.len(),
         )
     })
+}
+
+/// The bytes of the topic's record that were written, 0 where there is none.
+pub fn topic(image: &[u8], name: &[u8], out: &mut [u8]) -> Result<usize, u8> {
+    by_name(jeghatuf_topic, image, name, out)
 }
 
 /// As `topic`, for the topic that the id names.
@@ -174,17 +181,7 @@ pub fn short_count(image: &[u8]) -> Result<usize, u8> {
 
 /// As `topic`, for the freeze of a name.
 pub fn freeze(image: &[u8], name: &[u8], out: &mut [u8]) -> Result<usize, u8> {
-    // SAFETY: each pointer and length are a slice's, and `out` is borrowed alone.
-    unpacked(unsafe {
-        jeghatuf_freeze(
-            image.as_ptr(),
-            image.len(),
-            name.as_ptr(),
-            name.len(),
-            out.as_mut_ptr(),
-            out.len(),
-        )
-    })
+    by_name(jeghatuf_freeze, image, name, out)
 }
 
 /// Puts a node's rate of a kind into `value[0]`. The value is how many rates

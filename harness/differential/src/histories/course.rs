@@ -1,11 +1,12 @@
 //! A history under way: the library's buffer beside the reference.
 
 use oracle::image::image;
+use oracle::verdict::NO_ROOM;
+use wire::Random;
 
 use super::expect;
-use super::reference::{NO_ROOM, Reference};
+use super::reference::Reference;
 use crate::images::{Compared, Tally, shown};
-use crate::random::Random;
 use crate::{apply, open};
 
 #[derive(Clone)]
@@ -30,7 +31,7 @@ impl Course {
         let reference = Reference::new();
         let expected = image(&reference.observed(), capacity);
         let mut course = Self {
-            buffer: (0..capacity).map(|_| random.next() as u8).collect(),
+            buffer: random.bytes(capacity),
             expected: expected.expect("a capacity that Open takes"),
             reference,
         };

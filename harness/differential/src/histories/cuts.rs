@@ -1,7 +1,7 @@
 //! Histories with cuts at any places, beside the same ones uncut and beside the
 //! reference; and Restore of bytes that no snapshot wrote.
 
-use wire::{damaged, decode};
+use wire::{Random, damaged, decode, hex};
 
 use super::course::Course;
 use super::drawn::{Drawn, capacities};
@@ -9,7 +9,6 @@ use super::premises::{Premises, alike};
 use super::restart::{compare_no_capacity, compare_restore};
 use super::told;
 use crate::images::{Compared, Tally};
-use crate::random::Random;
 
 /// In some histories one step in so many is followed by a cut; in some all are.
 const OFTEN: [usize; 4] = [1, 3, 8, 20];
@@ -115,7 +114,7 @@ fn to_restore(random: &mut Random, snapshot: &[u8], inputs: &[Vec<u8>]) -> Vec<V
         all.push(shuffled(random, snapshot));
         if !snapshot.is_empty() {
             all.push(snapshot[..random.below(snapshot.len())].to_vec());
-            all.push(damaged(&mut || random.next(), snapshot));
+            all.push(damaged(random, snapshot));
         }
     }
     all
@@ -130,8 +129,4 @@ fn shuffled(random: &mut Random, snapshot: &[u8]) -> Vec<u8> {
         rest = &rest[used..];
     }
     records.concat()
-}
-
-fn hex(bytes: &[u8]) -> String {
-    bytes.iter().map(|byte| format!("{byte:02x}")).collect()
 }

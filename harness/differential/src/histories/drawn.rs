@@ -3,13 +3,12 @@
 use krabka_metadata::{MetadataImage, MetadataRecord};
 use oracle::generate::Generator;
 use oracle::image::{FIXED_ROOM, MOST_CAPACITY, weight};
-use wire::{damaged, encode};
+use wire::{Random, damaged, encoded};
 
 use super::History;
 use super::no_image::compare_near;
 use super::reference::Reference;
 use crate::images::{Compared, Tally, knobs};
-use crate::random::Random;
 
 /// A history draws at most so many records.
 const STEPS: usize = 60;
@@ -20,7 +19,7 @@ const TO_AN_END: usize = 4;
 
 /// Compares the history of a seed at several capacities.
 pub fn compare_drawn(tally: &mut Tally, seed: u64) -> Compared {
-    let mut random = Random::new(seed);
+    let mut random = Random::beside(seed);
     let drawn = Drawn::of(&mut random, seed);
     for capacity in capacities(&mut random, drawn.reached) {
         let history = History {
@@ -91,13 +90,13 @@ fn to_an_end(random: &mut Random, image: &MetadataImage, record: &mut MetadataRe
 /// A record, and for some of them copies: cut, with one byte changed, and with
 /// any damage. Some of these are records too.
 fn inputs(random: &mut Random, record: &MetadataRecord) -> Vec<Vec<u8>> {
-    let bytes = encode(record).expect("a kind that 01 has");
+    let bytes = encoded(record);
     if random.below(DAMAGED) != 0 {
         return vec![bytes];
     }
     let cut = bytes[..random.below(bytes.len())].to_vec();
     let mut changed = bytes.clone();
-    changed[random.below(bytes.len())] = random.next() as u8;
-    let any = damaged(&mut || random.next(), &bytes);
+    changed[random.below(bytes.len())] = random.byte();
+    let any = damaged(random, &bytes);
     vec![bytes, cut, changed, any]
 }

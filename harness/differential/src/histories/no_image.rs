@@ -4,16 +4,14 @@
 use oracle::cases::cases;
 use oracle::exact::is_image;
 use oracle::facts::build::{delete_topic, feature_level, topic};
-use wire::encode;
+use oracle::verdict::NO_IMAGE;
+use wire::{Random, encoded};
 
 use super::course::Course;
 use super::{expect, told};
 use crate::images::{Compared, Tally, shown};
-use crate::random::Random;
 use crate::{apply, validate};
 
-/// The buffer is no image.
-const NO_IMAGE: u8 = 1;
 /// How often a byte of an image is changed.
 const DRAWS: usize = 6;
 
@@ -30,7 +28,7 @@ pub fn compare_no_image(tally: &mut Tally) -> Compared {
 
 /// Records, and bytes that are none: they too get 1, which comes first.
 fn inputs() -> [Vec<u8>; 5] {
-    let bytes = |record| encode(&record).expect("a kind that 01 has");
+    let bytes = |record| encoded(&record);
     [
         bytes(topic("p", 1, 0, 1)),
         bytes(delete_topic("p")),

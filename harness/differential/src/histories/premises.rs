@@ -3,10 +3,11 @@
 use std::collections::{BTreeMap, BTreeSet};
 
 use krabka_metadata::{MetadataRecord, TopicRecord};
+use oracle::verdict::NO_ROOM;
 use wire::decode;
 
 use super::course::{Course, Verdict};
-use super::reference::{NO_ROOM, Reference};
+use super::reference::Reference;
 use crate::images::{Compared, Tally, answers};
 
 /// Whether the premises have held so far.

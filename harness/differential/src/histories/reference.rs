@@ -3,14 +3,9 @@
 use krabka_metadata::{MetadataImage, MetadataRecord};
 use oracle::image::weight;
 use oracle::observe::{Observed, Witness, observe, restored};
-use oracle::verdict::{ACCEPTED, offset_leaves_i64, verdict};
+use oracle::verdict::{ACCEPTED, NO_OFFSET, NO_ROOM, offset_leaves_i64, verdict};
 use uuid::Uuid;
 use wire::decode;
-
-/// The offset's sum leaves i64.
-pub const NO_OFFSET: u8 = 17;
-/// The weight afterwards exceeds the capacity.
-pub const NO_ROOM: u8 = 18;
 
 /// The first refusal of Restore, with the place of its record.
 pub type Stopped = (u8, usize);

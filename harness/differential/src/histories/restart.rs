@@ -1,16 +1,13 @@
 //! Snapshot and Restore of a history's image.
 
-use wire::encode;
+use oracle::verdict::NO_IMAGE;
+use wire::{Random, TOO_SHORT, encoded_all};
 
 use super::course::Course;
 use super::expect;
 use super::reference::{Reference, Stopped};
 use crate::images::{Compared, Tally};
-use crate::random::Random;
 use crate::{restore, snapshot};
-
-const NO_IMAGE: u8 = 1;
-const TOO_SHORT: u8 = 19;
 
 /// The most bytes that a snapshot's buffer is longer than it must be.
 const LONGER: usize = 40;
@@ -20,7 +17,7 @@ impl Course {
     /// one. The reference goes on from `from_records`.
     pub fn cut(&mut self, tally: &mut Tally, random: &mut Random) -> Compared {
         let bytes = self.snapshot(tally, random)?;
-        let mut buffer = junk(random, self.buffer.len());
+        let mut buffer = random.bytes(self.buffer.len());
         let answer = restore(&mut buffer, &bytes);
         tally.count("Restore of a snapshot", 0);
         if answer != Ok(()) {
@@ -32,7 +29,7 @@ impl Course {
     /// The snapshot's bytes. One byte less has no room for them.
     fn snapshot(&self, tally: &mut Tally, random: &mut Random) -> Result<Vec<u8>, String> {
         let bytes = self.expected_snapshot();
-        let mut short = junk(random, bytes.len().saturating_sub(1));
+        let mut short = random.bytes(bytes.len().saturating_sub(1));
         if short.len() < bytes.len() {
             let before = short.clone();
             let number = snapshot(&self.buffer, &mut short).err().unwrap_or(0);
@@ -42,7 +39,7 @@ impl Course {
             }
         }
         let longer = random.below(LONGER);
-        let mut out = junk(random, bytes.len() + longer);
+        let mut out = random.bytes(bytes.len() + longer);
         let end = [&bytes, &out[bytes.len()..]].concat();
         let answer = snapshot(&self.buffer, &mut out);
         tally.count("Snapshot", 0);
@@ -54,11 +51,7 @@ impl Course {
 
     /// The reference's `to_records`, in 01's order.
     pub fn expected_snapshot(&self) -> Vec<u8> {
-        let records = self.reference.observed().records;
-        let encoded = records.iter().map(encode);
-        encoded
-            .flat_map(|record| record.expect("a kind that 01 has"))
-            .collect()
+        encoded_all(&self.reference.observed().records)
     }
 }
 
@@ -71,7 +64,7 @@ pub fn compare_restore(
     input: &[u8],
 ) -> Compared {
     let (reference, stopped) = Reference::restored(input, capacity);
-    let mut buffer = junk(random, capacity);
+    let mut buffer = random.bytes(capacity);
     let answer = restore(&mut buffer, input);
     let expected = stopped.map_or(Ok(()), refused);
     tally.count("Restore", stopped.map_or(0, |(number, _)| number));
@@ -85,7 +78,7 @@ pub fn compare_restore(
 /// input is, and nothing changes.
 pub fn compare_no_capacity(tally: &mut Tally, random: &mut Random, input: &[u8]) -> Compared {
     for capacity in [0, 127, 65_537] {
-        let before = junk(random, capacity);
+        let before = random.bytes(capacity);
         let mut buffer = before.clone();
         let answer = restore(&mut buffer, input);
         tally.count("Restore, no capacity", NO_IMAGE);
@@ -98,8 +91,4 @@ pub fn compare_no_capacity(tally: &mut Tally, random: &mut Random, input: &[u8])
 
 fn refused((number, place): Stopped) -> Result<(), (u8, Option<u64>)> {
     Err((number, Some(place as u64)))
-}
-
-pub fn junk(random: &mut Random, length: usize) -> Vec<u8> {
-    (0..length).map(|_| random.next() as u8).collect()
 }

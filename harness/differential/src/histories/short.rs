@@ -3,9 +3,8 @@
 mod records;
 mod sets;
 
-use krabka_metadata::MetadataRecord;
 use oracle::image::{FIXED_ROOM, weight};
-use wire::encode;
+use wire::encoded;
 
 use super::History;
 use super::course::Course;
@@ -23,7 +22,7 @@ const ROOMY: usize = 4_096;
 /// one of these, with the refused records left out.
 pub fn compare_short(tally: &mut Tally) -> Compared {
     for (name, records) in sets() {
-        let inputs = encoded(&records);
+        let inputs: Vec<Vec<u8>> = records.iter().map(encoded).collect();
         for capacity in capacities(&inputs) {
             let course = Course::open(tally, capacity)?;
             Walk::new(capacity, &inputs)
@@ -32,13 +31,6 @@ pub fn compare_short(tally: &mut Tally) -> Compared {
         }
     }
     Ok(())
-}
-
-fn encoded(records: &[MetadataRecord]) -> Vec<Vec<u8>> {
-    let encoded = records.iter().map(encode);
-    encoded
-        .map(|record| record.expect("a kind that 01 has"))
-        .collect()
 }
 
 /// All room; as much as the histories need, and one byte less; half of it, and

@@ -2,10 +2,9 @@
 
 use oracle::image::MOST_CAPACITY;
 use oracle::layout::{HEAD_SIZE, Layout};
-use wire::damaged;
+use wire::{Random, damaged};
 
 use super::{Compared, Tally, exact, lookups, rules};
-use crate::random::Random;
 
 /// Up to this size every byte of an image is changed, above it some are.
 const SMALL: usize = 1_024;
@@ -60,7 +59,7 @@ fn values(random: &mut Random, old: u8) -> Vec<u8> {
         0,
         old.wrapping_add(1),
         old.wrapping_sub(1),
-        random.next() as u8,
+        random.byte(),
     ];
     values.retain(|value| *value != old);
     values.sort_unstable();
@@ -113,7 +112,7 @@ fn compare_damaged(tally: &mut Tally, random: &mut Random, layout: &Layout) -> C
     }
     let place = random.below(layout.entries.len());
     let mut edited = layout.clone();
-    edited.entries[place] = damaged(&mut || random.next(), &layout.entries[place]);
+    edited.entries[place] = damaged(random, &layout.entries[place]);
     let made = || format!("entry {place} damaged");
     compare_layout(tally, "an entry damaged", &edited, made)
 }
@@ -153,7 +152,7 @@ pub fn compare_random(tally: &mut Tally, seed: u64) -> Compared {
     let mut random = Random::new(seed);
     let bound = [200, 400, 5_000, MOST_CAPACITY + 2][random.below(4)];
     let length = random.below(bound);
-    let mut buffer: Vec<u8> = (0..length).map(|_| random.next() as u8).collect();
+    let mut buffer: Vec<u8> = random.bytes(length);
     let made = || format!("seed {seed}");
     exact::compare(tally, "random bytes", &buffer, made)?;
     lookups::compare_no_image(tally, &buffer)?;
@@ -162,8 +161,8 @@ pub fn compare_random(tally: &mut Tally, seed: u64) -> Compared {
     if length >= HEAD_SIZE {
         let used = HEAD_SIZE + random.below(length - HEAD_SIZE + 1);
         let layout = Layout {
-            epoch: random.next() as i64,
-            kraft: random.next() as u16,
+            epoch: random.bits() as i64,
+            kraft: random.bits() as u16,
             entries: vec![buffer[HEAD_SIZE..used].to_vec()],
         };
         buffer = layout.bytes(length);

@@ -37,7 +37,7 @@ pub fn expect(
 pub fn shown(buffer: &[u8]) -> String {
     let end = buffer.iter().rposition(|byte| *byte != 0);
     let start = &buffer[..end.map_or(0, |last| last + 1)];
-    let hex: String = start.iter().map(|byte| format!("{byte:02x}")).collect();
+    let hex = wire::hex(start);
     format!(
         "{} bytes, and zeros up to {}: {hex}",
         start.len(),

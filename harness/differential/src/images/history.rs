@@ -2,10 +2,10 @@
 
 use krabka_metadata::MetadataRecord;
 use oracle::image::{FIXED_ROOM, MOST_CAPACITY, image};
+use wire::Random;
 
 use super::subject::{Subject, applied};
 use super::{Compared, Tally, buffers, exact, lookups, rules, verdicts};
-use crate::random::Random;
 
 /// After how many records an image is looked at.
 const LENGTHS: [usize; 8] = [1, 2, 4, 8, 16, 32, 64, usize::MAX];
@@ -45,7 +45,7 @@ fn compare_image(tally: &mut Tally, records: &[MetadataRecord], seed: u64) -> Co
         tally.count("images of histories", "too large");
         return Ok(());
     }
-    let mut random = Random::new(seed);
+    let mut random = Random::beside(seed);
     let more = subject.weight + 1 + random.below(64);
     for capacity in [subject.weight, more.min(MOST_CAPACITY), MOST_CAPACITY] {
         let image = image(&subject.observed, capacity).expect("contents that fit");

@@ -20,7 +20,7 @@ pub fn compare_listing(tally: &mut Tally) -> Compared {
     let fit = all.take_while(|subject| subject.weight <= MOST_CAPACITY);
     let subject = fit.last().expect("one partition fits");
     let image = image(&subject.observed, MOST_CAPACITY).expect("contents that fit");
-    let listed = rules::bytes(&downgrade(&subject.image, i16::MIN)).len();
+    let listed = wire::encoded_all(&downgrade(&subject.image, i16::MIN)).len();
     assert!(listed > 10 * subject.layout.used(), "a long listing");
     rules::compare_no_kinds(tally, &image)?;
     rules::compare(tally, &subject, &image)

@@ -4,33 +4,25 @@ mod answer;
 pub mod queries;
 
 use krabka_metadata::{MetadataRecord, NodeId};
+use oracle::verdict::NO_IMAGE;
 use uuid::Uuid;
-use wire::encode;
+use wire::{OVER_A_LIMIT, WRONG_FIELD, encoded, hex};
 
-use super::exact::shown;
-use super::subject::Subject;
+use super::subject::{On, Subject};
 use super::{Compared, Tally};
 use crate::{broker, features_epoch, partition, short_count, topic, topic_by_id};
 pub use answer::{compare_record, compare_refused, compare_value};
 
-/// The buffer is no image.
-pub const NO_IMAGE: u8 = 1;
-const NO_TEXT: u8 = 4;
-const TOO_LONG: u8 = 5;
-
 /// All lookups of `image`, which holds what the subject does.
 pub fn compare(tally: &mut Tally, subject: &Subject, image: &[u8]) -> Compared {
-    let lookups = [
+    let lookups: [On; 5] = [
         compare_topics,
         compare_ids,
         compare_partitions,
         compare_brokers,
         compare_numbers,
     ];
-    let compared = lookups
-        .iter()
-        .try_for_each(|lookup| lookup(tally, subject, image));
-    compared.map_err(|difference| format!("{difference}\nof the image of {}", shown(image)))
+    subject.compare(tally, image, &lookups)
 }
 
 fn compare_topics(tally: &mut Tally, subject: &Subject, image: &[u8]) -> Compared {
@@ -42,7 +34,7 @@ fn compare_topics(tally: &mut Tally, subject: &Subject, image: &[u8]) -> Compare
         compare_record(tally, "topic by name", question, bytes(record), call)?;
     }
     for (name, number) in bad_names() {
-        let question = || format!("the topic {}", hex(&name));
+        let question = || format!("the topic {}", told(&name));
         let call = |out: &mut [u8]| topic(image, &name, out);
         compare_refused(tally, "topic by name", question, number, call)?;
     }
@@ -53,7 +45,7 @@ fn compare_ids(tally: &mut Tally, subject: &Subject, image: &[u8]) -> Compared {
     for id in queries::ids(&subject.image) {
         let record = subject.image.topic_by_id(&Uuid::from_bytes(id));
         let record = record.cloned().map(MetadataRecord::V1Topic);
-        let question = || format!("the topic of id {}", hex(&id));
+        let question = || format!("the topic of id {}", told(&id));
         let call = |out: &mut [u8]| topic_by_id(image, &id, out);
         compare_record(tally, "topic by id", question, bytes(record), call)?;
     }
@@ -69,7 +61,7 @@ fn compare_partitions(tally: &mut Tally, subject: &Subject, image: &[u8]) -> Com
         compare_record(tally, "partition", question, bytes(record), call)?;
     }
     for (name, number) in bad_names() {
-        let question = || format!("partition 0 of {}", hex(&name));
+        let question = || format!("partition 0 of {}", told(&name));
         let call = |out: &mut [u8]| partition(image, &name, 0, out);
         compare_refused(tally, "partition", question, number, call)?;
     }
@@ -124,13 +116,13 @@ pub fn compare_no_image(tally: &mut Tally, buffer: &[u8]) -> Compared {
 }
 
 fn bytes(record: Option<MetadataRecord>) -> Option<Vec<u8>> {
-    record.map(|record| encode(&record).expect("a kind that 01 has"))
+    record.map(|record| encoded(&record))
 }
 
 /// A name or an id: its length, and its first bytes.
-pub fn hex(name: &[u8]) -> String {
-    let bytes = name.iter().take(32).map(|byte| format!("{byte:02x}"));
-    format!("{} bytes {}", name.len(), bytes.collect::<String>())
+pub fn told(name: &[u8]) -> String {
+    let start = &name[..name.len().min(32)];
+    format!("{} bytes {}", name.len(), hex(start))
 }
 
 /// Names that are no UTF-8, and names that are too long; 4 comes before 5.
@@ -146,7 +138,7 @@ pub fn bad_names() -> Vec<(Vec<u8>, u8)> {
         &[&[b'n'; 255][..], &[0xff]].concat(),
     ];
     let too_long = ["n".repeat(256), "n".repeat(252) + "𝄞", "n".repeat(70_000)];
-    let no_text = no_text.iter().map(|name| (name.to_vec(), NO_TEXT));
-    let too_long = too_long.map(|name| (name.into_bytes(), TOO_LONG));
+    let no_text = no_text.iter().map(|name| (name.to_vec(), WRONG_FIELD));
+    let too_long = too_long.map(|name| (name.into_bytes(), OVER_A_LIMIT));
     no_text.chain(too_long).collect()
 }

@@ -1,11 +1,11 @@
 //! Open on dirty buffers.
 
 use oracle::image::image;
+use wire::Random;
 
 use super::exact::shown;
 use super::subject::Subject;
 use super::{Compared, Tally, lookups};
-use crate::random::Random;
 use crate::{is_image, open};
 
 const CAPACITIES: [usize; 13] = [
@@ -27,7 +27,7 @@ fn dirty(random: &mut Random, capacity: usize) -> [Vec<u8>; 3] {
     [
         vec![0; capacity],
         vec![0xff; capacity],
-        (0..capacity).map(|_| random.next() as u8).collect(),
+        random.bytes(capacity),
     ]
 }
 

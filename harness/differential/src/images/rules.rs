@@ -3,41 +3,30 @@
 
 use std::collections::BTreeSet;
 
-use krabka_metadata::{MetadataImage, MetadataRecord, NodeId, ThrottleKind};
+use krabka_metadata::{MetadataImage, MetadataRecord, NodeId};
 use oracle::downgrade::downgrade as listing;
 use oracle::observe::Observed;
-use wire::encode;
+use oracle::verdict::NO_IMAGE;
+use wire::choices::THROTTLE_KINDS;
+use wire::{WRONG_FIELD, encoded, encoded_all};
 
-use super::exact::shown;
-use super::lookups::{
-    NO_IMAGE, bad_names, compare_record, compare_refused, compare_value, hex, queries,
-};
-use super::subject::Subject;
+use super::lookups::{bad_names, compare_record, compare_refused, compare_value, queries, told};
+use super::subject::{On, Subject};
 use super::{Compared, Tally};
 use crate::{downgrade, freeze, snapshot, throttle};
 
-/// A kind of throttle that there is not.
-const NO_KIND: u8 = 4;
-const KINDS: [ThrottleKind; 3] = [
-    ThrottleKind::Leader,
-    ThrottleKind::Follower,
-    ThrottleKind::AlterLogDirs,
-];
 /// Levels at which the listing changes, those beside them, and the ends.
 pub const LEVELS: [i16; 10] = [i16::MIN, -1, 0, 16, 17, 18, 29, 30, 31, i16::MAX];
 
 /// All of them on `image`, which holds what the subject does.
 pub fn compare(tally: &mut Tally, subject: &Subject, image: &[u8]) -> Compared {
-    let rules = [
+    let rules: [On; 4] = [
         compare_freezes,
         compare_throttles,
         compare_downgrades,
         compare_snapshot,
     ];
-    let compared = rules
-        .iter()
-        .try_for_each(|rule| rule(tally, subject, image));
-    compared.map_err(|difference| format!("{difference}\nof the image of {}", shown(image)))
+    subject.compare(tally, image, &rules)
 }
 
 /// The names of topics, the scopes of freezes, and names near them.
@@ -56,13 +45,13 @@ pub fn frozen_names(image: &MetadataImage) -> BTreeSet<String> {
 fn compare_freezes(tally: &mut Tally, subject: &Subject, image: &[u8]) -> Compared {
     for name in frozen_names(&subject.image) {
         let record = subject.image.topic_freeze(&name).cloned();
-        let record = record.map(|freeze| bytes(&[MetadataRecord::V1TopicFreeze(freeze)]));
+        let record = record.map(|freeze| encoded(&MetadataRecord::V1TopicFreeze(freeze)));
         let question = || format!("the freeze of {name:?}");
         let call = |out: &mut [u8]| freeze(image, name.as_bytes(), out);
         compare_record(tally, "freeze", question, record, call)?;
     }
     for (name, number) in bad_names() {
-        let question = || format!("the freeze of {}", hex(&name));
+        let question = || format!("the freeze of {}", told(&name));
         let call = |out: &mut [u8]| freeze(image, &name, out);
         compare_refused(tally, "freeze", question, number, call)?;
     }
@@ -82,7 +71,7 @@ pub fn throttled_nodes(image: &MetadataImage, observed: &Observed) -> BTreeSet<u
 
 fn compare_throttles(tally: &mut Tally, subject: &Subject, image: &[u8]) -> Compared {
     for node in throttled_nodes(&subject.image, &subject.observed) {
-        for (number, kind) in (0..).zip(KINDS) {
+        for (number, kind) in (0..).zip(THROTTLE_KINDS) {
             let rate = subject.image.broker_throttle_rate(NodeId(node), kind);
             let rate = rate.map(|rate| rate.bytes_per_sec);
             let what = match rate {
@@ -100,14 +89,14 @@ fn compare_throttles(tally: &mut Tally, subject: &Subject, image: &[u8]) -> Comp
 pub fn compare_no_kinds(tally: &mut Tally, image: &[u8]) -> Compared {
     for kind in 3..=255 {
         let call = |value: &mut [u64]| throttle(image, 1, kind, value);
-        compare_value(tally, "throttle of no kind", Err(NO_KIND), call)?;
+        compare_value(tally, "throttle of no kind", Err(WRONG_FIELD), call)?;
     }
     Ok(())
 }
 
 fn compare_downgrades(tally: &mut Tally, subject: &Subject, image: &[u8]) -> Compared {
     for level in LEVELS {
-        let records = bytes(&listing(&subject.image, level));
+        let records = encoded_all(&listing(&subject.image, level));
         let question = || format!("the listing for {level}");
         let call = |out: &mut [u8]| downgrade(image, level, out);
         compare_record(tally, "downgrade", question, Some(records), call)?;
@@ -116,7 +105,7 @@ fn compare_downgrades(tally: &mut Tally, subject: &Subject, image: &[u8]) -> Com
 }
 
 fn compare_snapshot(tally: &mut Tally, subject: &Subject, image: &[u8]) -> Compared {
-    let records = bytes(&subject.observed.records);
+    let records = encoded_all(&subject.observed.records);
     let question = || "the snapshot".to_owned();
     let call = |out: &mut [u8]| snapshot(image, out);
     compare_record(tally, "snapshot", question, Some(records), call)
@@ -138,11 +127,4 @@ pub fn compare_no_image(tally: &mut Tally, buffer: &[u8]) -> Compared {
     compare_refused(tally, what, || "a listing".to_owned(), NO_IMAGE, call)?;
     let call = |out: &mut [u8]| snapshot(buffer, out);
     compare_refused(tally, what, || "a snapshot".to_owned(), NO_IMAGE, call)
-}
-
-pub fn bytes(records: &[MetadataRecord]) -> Vec<u8> {
-    let encoded = records.iter().map(encode);
-    encoded
-        .flat_map(|record| record.expect("a kind that 01 has"))
-        .collect()
 }

@@ -8,8 +8,14 @@ use oracle::observe::{Observed, Witness, observe};
 use oracle::verdict::offset_leaves_i64;
 use uuid::Uuid;
 
+use super::exact::shown;
+use super::{Compared, Tally};
+
 /// The records of one generated history.
 const STEPS: usize = 90;
+
+/// A comparison on an image that holds what the subject does.
+pub type On = fn(&mut Tally, &Subject, &[u8]) -> Compared;
 
 pub struct Subject {
     pub image: MetadataImage,
@@ -37,6 +43,14 @@ impl Subject {
             image,
             observed,
         }
+    }
+
+    /// Compares all of `comparisons` on `image`, which holds what this does.
+    pub fn compare(&self, tally: &mut Tally, image: &[u8], comparisons: &[On]) -> Compared {
+        comparisons
+            .iter()
+            .try_for_each(|compare| compare(tally, self, image))
+            .map_err(|difference| format!("{difference}\nof the image of {}", shown(image)))
     }
 }
 

@@ -2,11 +2,10 @@
 
 use oracle::generate::{Generator, Knobs};
 use oracle::verdict::verdict;
-use wire::{encode, read};
+use wire::{Random, encoded, read};
 
 use super::subject::Subject;
 use super::{Compared, Tally};
-use crate::random::Random;
 use crate::validate;
 
 /// The records that are validated against each image.
@@ -21,11 +20,11 @@ pub fn compare(tally: &mut Tally, subject: &Subject, image: &[u8], seed: u64) ->
         ..Knobs::default()
     };
     let mut generator = Generator::new(seed, knobs);
-    let mut random = Random::new(seed);
+    let mut random = Random::beside(seed);
     for _ in 0..RECORDS {
         let record = generator.record(&subject.image);
         let expected = verdict(&subject.image, &record);
-        let bytes = encode(&record).expect("a kind that 01 has");
+        let bytes = encoded(&record);
         // Later bytes are not looked at.
         let longer = [&bytes[..], &[7, 0, 1]].concat();
         expect(tally, image, &longer, expected, || format!("{record:?}"))?;

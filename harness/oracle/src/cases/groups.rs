@@ -1,10 +1,11 @@
 //! The empty groups behind the stored entries.
 
 use krabka_metadata::MetadataRecord;
+use wire::encoded;
 
-use super::samples::{all_kinds, quota};
-use super::{Cases, applied, bytes};
-use crate::facts::build::{broker_config, feature_level};
+use super::samples::all_kinds;
+use super::{Cases, applied};
+use crate::facts::build::{broker_config, feature_level, quota};
 
 pub fn add(cases: &mut Cases) {
     beside_members(cases);
@@ -24,17 +25,17 @@ fn beside_members(cases: &mut Cases) {
     let mut records = [broker_config(1, "a", Some("x")), empty_config(2)];
     cases.image("an empty group of another node", applied(&records).roomy());
     records[1] = broker_config(2, "a", Some("x"));
-    let both = applied(&records).append(bytes(&empty_config(2)));
+    let both = applied(&records).append(encoded(&empty_config(2)));
     cases.no_image("an empty broker group beside a member", both.roomy());
 
     let user = [("user", Some("a"))];
     let members = applied(&[quota(&user, "rate", Some(0.0))]);
     let other = [("user", Some("b"))];
     for (name, entities) in [("another name", &other[..]), ("no entities", &[])] {
-        let layout = members.clone().append(bytes(&empty_quota(entities)));
+        let layout = members.clone().append(encoded(&empty_quota(entities)));
         cases.image(format!("an empty quota group of {name}"), layout.roomy());
     }
-    let both = members.append(bytes(&empty_quota(&user)));
+    let both = members.append(encoded(&empty_quota(&user)));
     cases.no_image("an empty quota group beside a member", both.roomy());
 }
 
@@ -89,7 +90,7 @@ fn tail(cases: &mut Cases) {
     ];
     for (name, records, is_image) in lists {
         let mut layout = applied(&[feature_level("a", 1)]);
-        layout.entries.extend(records.iter().map(bytes));
+        layout.entries.extend(records.iter().map(encoded));
         cases.push(format!("in the tail: {name}"), layout.roomy(), is_image);
     }
 }
@@ -101,7 +102,7 @@ fn stored(cases: &mut Cases) {
     for value in ["x", ""] {
         let layout = base
             .clone()
-            .insert(first, bytes(&broker_config(1, "", Some(value))));
+            .insert(first, encoded(&broker_config(1, "", Some(value))));
         cases.image(
             format!("an empty name with value {value:?}"),
             layout.roomy(),
@@ -109,14 +110,14 @@ fn stored(cases: &mut Cases) {
     }
     let named = base
         .clone()
-        .insert(first, bytes(&broker_config(0, "a", None)));
+        .insert(first, encoded(&broker_config(0, "a", None)));
     cases.no_image("a stored config without a value", named.roomy());
-    let named = base.clone().append(bytes(&broker_config(9, "a", None)));
+    let named = base.clone().append(encoded(&broker_config(9, "a", None)));
     cases.no_image("a name in the tail", named.roomy());
     let named = base
         .clone()
-        .append(bytes(&quota(&[("zone", None)], "rate", None)));
+        .append(encoded(&quota(&[("zone", None)], "rate", None)));
     cases.no_image("a quota key in the tail", named.roomy());
-    let early = base.insert(first, bytes(&empty_config(0)));
+    let early = base.insert(first, encoded(&empty_config(0)));
     cases.no_image("an empty group among the stored entries", early.roomy());
 }

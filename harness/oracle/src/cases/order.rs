@@ -1,11 +1,13 @@
 //! Entries in order, out of it, and repeated.
 
 use krabka_metadata::{MetadataRecord, PatternType};
+use wire::encoded;
 
-use super::samples::{all_kinds, quota};
-use super::{Cases, applied, bytes};
+use super::samples::all_kinds;
+use super::{Cases, applied};
 use crate::facts::build::{
-    broker, broker_config, feature_level, freeze, partition_record, recovering, topic,
+    broker, broker_config, controller, feature_level, freeze, partition_record, quota, recovering,
+    topic,
 };
 use crate::image::topic_entry;
 
@@ -14,7 +16,7 @@ pub fn add(cases: &mut Cases) {
     for (name, pair) in pairs() {
         let entries = pair.map(|record| match record {
             MetadataRecord::V1Topic(_) => topic_entry(&record, true),
-            _ => bytes(&record),
+            _ => encoded(&record),
         });
         let [first, second] = entries;
         let layout = |list: [&Vec<u8>; 2]| {
@@ -55,7 +57,13 @@ fn pairs() -> Vec<(&'static str, [MetadataRecord; 2])> {
     vec![
         ("nodes are unsigned", [node(1), node(1 << 63)]),
         ("nodes by value", [node(2), node(10)]),
-        ("kind 17 after 3", [node(9), super::samples::controller(1)]),
+        (
+            "kind 17 after 3",
+            [
+                node(9),
+                MetadataRecord::V1ControllerRegistration(controller(1, 1)),
+            ],
+        ),
         (
             "node, then name",
             [

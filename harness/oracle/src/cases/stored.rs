@@ -1,16 +1,17 @@
 //! Entries such as Apply stores, and such as it does not.
 
 use krabka_metadata::{
-    BrokerRegistrationChangeRecord, FencingChange, KRaftVersionRecord, LeaderRecoveryState,
-    MetadataRecord, NodeId, PartitionRecoveryRecord, PartitionUpdateRecord, PatternType,
-    UnregisterBrokerRecord, UnregisterControllerRecord,
+    BrokerRegistrationChangeRecord, FencingChange, MetadataRecord, NodeId, PartitionUpdateRecord,
+    PatternType, UnregisterBrokerRecord, UnregisterControllerRecord,
 };
+use wire::encoded;
 
-use super::samples::{all_kinds, group_config, metrics_config, quota};
-use super::{Cases, applied, bytes};
+use super::samples::all_kinds;
+use super::{Cases, applied};
 use crate::facts::build::{
-    delete_topic, dir_assignment, elr, feature_level, features_epoch, freeze, id, offset_advance,
-    partition, producer_ids, recovering, thaw, topic_config,
+    delete_topic, dir_assignment, elr, feature_level, features_epoch, freeze, group_config, id,
+    kraft_version, metrics_config, offset_advance, partition, producer_ids, quota, recovered,
+    recovering, thaw, topic_config,
 };
 
 pub fn add(cases: &mut Cases) {
@@ -24,28 +25,28 @@ pub fn add(cases: &mut Cases) {
 fn values(cases: &mut Cases) {
     let base = applied(&all_kinds());
     for level in [1, -1, i16::MIN, i16::MAX] {
-        let entry = bytes(&feature_level("a", level));
+        let entry = encoded(&feature_level("a", level));
         cases.image(format!("level {level}"), base.clone().with(entry).roomy());
     }
     for next in [1, i64::MAX] {
-        let entry = bytes(&producer_ids(1, 7, next));
+        let entry = encoded(&producer_ids(1, 7, next));
         let layout = base.clone().with(entry);
         cases.image(format!("next producer id {next}"), layout.roomy());
     }
     for next in [0, -1, i64::MIN] {
-        let entry = bytes(&producer_ids(1, 7, next));
+        let entry = encoded(&producer_ids(1, 7, next));
         let layout = base.clone().with(entry);
         cases.no_image(format!("next producer id {next}"), layout.roomy());
     }
     for count in [0, -1, i64::MIN, i64::MAX] {
-        let entry = bytes(&offset_advance("p", 0, count));
+        let entry = encoded(&offset_advance("p", 0, count));
         cases.image(format!("offset {count}"), base.clone().with(entry).roomy());
     }
     for (name, record) in good() {
-        cases.image(name, base.clone().with(bytes(&record)).roomy());
+        cases.image(name, base.clone().with(encoded(&record)).roomy());
     }
     for (name, record) in bad() {
-        cases.no_image(name, base.clone().with(bytes(&record)).roomy());
+        cases.no_image(name, base.clone().with(encoded(&record)).roomy());
     }
 }
 
@@ -65,7 +66,7 @@ fn bad() -> Vec<(&'static str, MetadataRecord)> {
     let types = [("user", None), ("ip", None)];
     vec![
         ("level 0", feature_level("a", 0)),
-        ("Recovered", recovered()),
+        ("Recovered", recovered("p", 0)),
         ("thawed freeze", thaw("p", PatternType::Literal)),
         ("two empty ELR lists", elr("p", 0, &[], &[])),
         ("empty topic config", topic_config("p", &[])),
@@ -77,14 +78,6 @@ fn bad() -> Vec<(&'static str, MetadataRecord)> {
             quota(&[("user", Some("a"))], "rate", None),
         ),
     ]
-}
-
-fn recovered() -> MetadataRecord {
-    MetadataRecord::V1PartitionRecovery(PartitionRecoveryRecord {
-        topic: "p".to_owned(),
-        partition: 0,
-        state: LeaderRecoveryState::Recovered,
-    })
 }
 
 /// Apply does not validate: what belongs to a topic may stand without one.
@@ -109,7 +102,7 @@ fn kinds(cases: &mut Cases) {
     let base = applied(&all_kinds());
     let levels = base.place_of(11) + 2;
     for record in never_stored() {
-        let entry = bytes(&record);
+        let entry = encoded(&record);
         let kind = entry[0];
         for place in [0, levels, base.entries.len()] {
             let layout = base.clone().insert(place, entry.clone());
@@ -127,7 +120,7 @@ fn kinds(cases: &mut Cases) {
 fn never_stored() -> Vec<MetadataRecord> {
     let node_id = NodeId(1);
     vec![
-        MetadataRecord::V1KRaftVersion(KRaftVersionRecord { kraft_version: 1 }),
+        kraft_version(1),
         features_epoch(1),
         delete_topic("p"),
         MetadataRecord::V1UnregisterBroker(UnregisterBrokerRecord {

@@ -2,8 +2,9 @@
 
 use krabka_metadata::{MetadataRecord, TopicRecord};
 use uuid::Uuid;
+use wire::encoded;
 
-use super::{Cases, applied, bytes};
+use super::{Cases, applied};
 use crate::facts::build::{feature_level, partition_record, topic};
 use crate::image::topic_entry;
 use crate::layout::Layout;
@@ -62,7 +63,7 @@ fn other_partitions(cases: &mut Cases) {
 
 /// An entry of these fields behind a topic's record.
 fn behind(record: &MetadataRecord, field: &[u8]) -> Vec<u8> {
-    let mut entry = [&bytes(record), field].concat();
+    let mut entry = [&encoded(record), field].concat();
     let body = u16::try_from(entry.len() - 3).expect("a short entry");
     entry[1..3].copy_from_slice(&body.to_be_bytes());
     entry

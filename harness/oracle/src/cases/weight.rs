@@ -1,10 +1,13 @@
 //! Entries that fit the bytes, at their weight's capacity and one below.
 
 use krabka_metadata::MetadataRecord;
+use wire::encoded;
 
-use super::samples::{all_kinds, quota};
+use super::samples::all_kinds;
 use super::{Cases, applied};
-use crate::facts::build::{broker_config, feature_level, partition_record, producer_ids, topic};
+use crate::facts::build::{
+    broker_config, feature_level, partition_record, producer_ids, quota, topic,
+};
 use crate::layout::Layout;
 
 pub fn add(cases: &mut Cases) {
@@ -70,7 +73,7 @@ fn full(cases: &mut Cases) {
         let levels = levels(65_536 + more);
         let name = format!("weight 65,536 and {more} at 65,536");
         cases.push(&name, levels.bytes(65_536), is_image);
-        let entry = super::bytes(&producer_ids(1, 0, 1));
+        let entry = encoded(&producer_ids(1, 0, 1));
         let with = levels.insert(0, entry);
         let name = format!("{name}, with ProducerIds");
         cases.push(name, with.bytes(65_536), is_image);

@@ -4,11 +4,13 @@ use std::collections::BTreeMap;
 use std::fmt::Display;
 
 use krabka_metadata::{
-    BrokerConfigRecord, BrokerRegistrationRecord, DeleteTopicRecord, FeatureLevelRecord,
-    FeaturesEpochRecord, LeaderRecoveryState, MetadataImage, MetadataRecord, NodeId,
-    PartitionDirAssignmentRecord, PartitionElrRecord, PartitionOffsetAdvanceRecord,
-    PartitionRecord, PartitionRecoveryRecord, PatternType, ProducerIdsRecord, TopicConfigRecord,
-    TopicFreezeRecord, TopicRecord,
+    BreakGlassAction, BreakGlassApproval, BreakGlassProposalRecord, BrokerConfigRecord,
+    BrokerRegistrationRecord, ClientMetricsConfigRecord, ClientQuotaRecord,
+    ControllerRegistrationRecord, DeleteTopicRecord, FeatureLevelRecord, FeaturesEpochRecord,
+    GroupConfigRecord, KRaftVersionRecord, LeaderRecoveryState, MetadataImage, MetadataRecord,
+    NodeId, PartitionDirAssignmentRecord, PartitionElrRecord, PartitionOffsetAdvanceRecord,
+    PartitionRecord, PartitionRecoveryRecord, PatternType, ProducerIdsRecord, QuotaEntity,
+    TopicConfigRecord, TopicFreezeRecord, TopicRecord,
 };
 use uuid::Uuid;
 
@@ -62,11 +64,29 @@ pub fn delete_topic(name: &str) -> MetadataRecord {
 }
 
 pub fn topic_config(topic: &str, overrides: &[(&str, &str)]) -> MetadataRecord {
-    let pair = |(key, value): &(&str, &str)| (key.to_string(), value.to_string());
     MetadataRecord::V1TopicConfig(TopicConfigRecord {
         topic: topic.to_owned(),
-        overrides: overrides.iter().map(pair).collect(),
+        overrides: pairs(overrides),
     })
+}
+
+pub fn metrics_config(name: &str, configs: &[(&str, &str)]) -> MetadataRecord {
+    MetadataRecord::V1ClientMetricsConfig(ClientMetricsConfigRecord {
+        name: name.to_owned(),
+        configs: pairs(configs),
+    })
+}
+
+pub fn group_config(group_id: &str, configs: &[(&str, &str)]) -> MetadataRecord {
+    MetadataRecord::V1GroupConfig(GroupConfigRecord {
+        group_id: group_id.to_owned(),
+        configs: pairs(configs),
+    })
+}
+
+fn pairs(list: &[(&str, &str)]) -> BTreeMap<String, String> {
+    let pair = |(key, value): &(&str, &str)| (key.to_string(), value.to_string());
+    list.iter().map(pair).collect()
 }
 
 /// A partition of these replicas, all in sync, with no directories.
@@ -110,12 +130,20 @@ pub fn elr(topic: &str, number: i32, eligible: &[u64], last_known: &[u64]) -> Me
     })
 }
 
-pub fn recovering(topic: &str, number: i32) -> MetadataRecord {
+fn recovery(topic: &str, partition: i32, state: LeaderRecoveryState) -> MetadataRecord {
     MetadataRecord::V1PartitionRecovery(PartitionRecoveryRecord {
         topic: topic.to_owned(),
-        partition: number,
-        state: LeaderRecoveryState::Recovering,
+        partition,
+        state,
     })
+}
+
+pub fn recovering(topic: &str, number: i32) -> MetadataRecord {
+    recovery(topic, number, LeaderRecoveryState::Recovering)
+}
+
+pub fn recovered(topic: &str, number: i32) -> MetadataRecord {
+    recovery(topic, number, LeaderRecoveryState::Recovered)
 }
 
 pub fn feature_level(name: &str, level: i16) -> MetadataRecord {
@@ -154,6 +182,35 @@ pub fn broker_config(node: u64, name: &str, value: Option<&str>) -> MetadataReco
     })
 }
 
+/// Type and name of each entity.
+pub type Entities<'a> = &'a [(&'a str, Option<&'a str>)];
+
+pub fn quota(entities: Entities, key: &str, value: Option<f64>) -> MetadataRecord {
+    let entity = |(entity_type, entity_name): &(&str, Option<&str>)| QuotaEntity {
+        entity_type: entity_type.to_string(),
+        entity_name: entity_name.map(str::to_owned),
+    };
+    MetadataRecord::V1ClientQuota(ClientQuotaRecord {
+        entity: entities.iter().map(entity).collect(),
+        config_key: key.to_owned(),
+        config_value: value,
+    })
+}
+
+pub fn controller(node: u64, incarnation: u64) -> ControllerRegistrationRecord {
+    ControllerRegistrationRecord {
+        node_id: NodeId(node),
+        incarnation_id: id(incarnation),
+        zk_migration_ready: false,
+        endpoints: Vec::new(),
+        features: BTreeMap::new(),
+    }
+}
+
+pub fn kraft_version(kraft_version: u16) -> MetadataRecord {
+    MetadataRecord::V1KRaftVersion(KRaftVersionRecord { kraft_version })
+}
+
 pub fn producer_ids(broker: u64, epoch: i64, next: i64) -> MetadataRecord {
     MetadataRecord::V1ProducerIds(ProducerIdsRecord {
         broker_id: NodeId(broker),
@@ -182,4 +239,29 @@ pub fn freeze(scope: &str, pattern_type: PatternType) -> MetadataRecord {
 
 pub fn thaw(scope: &str, pattern_type: PatternType) -> MetadataRecord {
     freeze_record(scope, pattern_type, false)
+}
+
+/// A proposal that nobody has approved, and that is not settled.
+pub fn proposal(proposal_id: Uuid) -> BreakGlassProposalRecord {
+    BreakGlassProposalRecord {
+        proposal_id,
+        action: BreakGlassAction::DeleteTopic,
+        target: String::new(),
+        proposer: String::new(),
+        reason: String::new(),
+        created_at_ms: 0,
+        expires_at_ms: 0,
+        approvals: Vec::new(),
+        consumed_at_ms: 0,
+        withdrawn: false,
+    }
+}
+
+pub fn approval(principal: &str) -> BreakGlassApproval {
+    BreakGlassApproval {
+        principal: principal.to_owned(),
+        approved_at_ms: 1,
+        key_id: String::new(),
+        signature: Vec::new(),
+    }
 }

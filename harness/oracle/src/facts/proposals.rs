@@ -1,11 +1,9 @@
 //! Which changes of a stored break-glass proposal `validate` takes.
 
-use krabka_metadata::{
-    BreakGlassAction, BreakGlassApproval, BreakGlassProposalRecord, MetadataRecord,
-};
+use krabka_metadata::{BreakGlassProposalRecord, MetadataRecord};
 
 use super::Facts;
-use super::build::{applied, id};
+use super::build::{self, applied, approval, id};
 use crate::verdict::verdict;
 
 pub fn say(facts: &mut Facts) {
@@ -16,23 +14,11 @@ pub fn say(facts: &mut Facts) {
 
 /// A proposal approved by these principals.
 fn proposal(principals: &[&str]) -> BreakGlassProposalRecord {
-    let approval = |principal: &&str| BreakGlassApproval {
-        principal: principal.to_string(),
-        approved_at_ms: 1,
-        key_id: String::new(),
-        signature: Vec::new(),
-    };
     BreakGlassProposalRecord {
-        proposal_id: id(1),
-        action: BreakGlassAction::DeleteTopic,
         target: "p".to_owned(),
         proposer: "carol".to_owned(),
-        reason: String::new(),
-        created_at_ms: 0,
-        expires_at_ms: 0,
-        approvals: principals.iter().map(approval).collect(),
-        consumed_at_ms: 0,
-        withdrawn: false,
+        approvals: principals.iter().copied().map(approval).collect(),
+        ..build::proposal(id(1))
     }
 }
 

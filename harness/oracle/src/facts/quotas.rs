@@ -1,13 +1,10 @@
 //! Client quotas: their entities' order, their bits, their empty groups.
 
-use krabka_metadata::{ClientQuotaRecord, EntityKey, MetadataImage, MetadataRecord, QuotaEntity};
+use krabka_metadata::{EntityKey, MetadataImage, MetadataRecord};
 
 use super::Facts;
-use super::build::{applied, cut, shown};
+use super::build::{Entities, applied, cut, quota, shown};
 use crate::observe::{Witness, observe};
-
-/// Type and name of each entity.
-type Entities<'a> = &'a [(&'a str, Option<&'a str>)];
 
 pub fn say(facts: &mut Facts) {
     orders(facts);
@@ -15,16 +12,8 @@ pub fn say(facts: &mut Facts) {
     empty_groups(facts);
 }
 
-fn quota(entities: Entities, value: Option<f64>) -> MetadataRecord {
-    let entity = |(entity_type, entity_name): &(&str, Option<&str>)| QuotaEntity {
-        entity_type: entity_type.to_string(),
-        entity_name: entity_name.map(str::to_owned),
-    };
-    MetadataRecord::V1ClientQuota(ClientQuotaRecord {
-        entity: entities.iter().map(entity).collect(),
-        config_key: "rate".to_owned(),
-        config_value: value,
-    })
+fn rate(entities: Entities, value: Option<f64>) -> MetadataRecord {
+    quota(entities, "rate", value)
 }
 
 fn shown_entities(entities: &EntityKey) -> String {
@@ -50,7 +39,7 @@ fn orders(facts: &mut Facts) {
         &[("user", Some("x")), ("user", None)],
     ];
     for list in lists {
-        let image = applied(&[quota(list, Some(1.0))]);
+        let image = applied(&[rate(list, Some(1.0))]);
         let given: EntityKey = list
             .iter()
             .map(|(kind, name)| (kind.to_string(), name.map(str::to_owned)))
@@ -60,12 +49,12 @@ fn orders(facts: &mut Facts) {
             groups(&image),
         );
     }
-    let both = applied(&[quota(lists[0], Some(1.0)), quota(lists[1], Some(1.0))]);
+    let both = applied(&[rate(lists[0], Some(1.0)), rate(lists[1], Some(1.0))]);
     facts.say(
         "quotas of the first two, groups",
         both.client_quotas().len(),
     );
-    let none = applied(&[quota(&[], Some(1.0))]);
+    let none = applied(&[rate(&[], Some(1.0))]);
     facts.say("quota of no entities", groups(&none));
 }
 
@@ -76,7 +65,7 @@ fn bits(facts: &mut Facts) {
         0xFFF4_0000_DEAD_BEEF,
     ];
     for bits in values {
-        let image = cut(&applied(&[quota(
+        let image = cut(&applied(&[rate(
             &[("ip", None)],
             Some(f64::from_bits(bits)),
         )]));
@@ -97,12 +86,12 @@ fn bits(facts: &mut Facts) {
 fn empty_groups(facts: &mut Facts) {
     let entities: Entities = &[("ip", Some("a"))];
     let empty = |image: &MetadataImage| observe(image, &Witness::default()).empty_quotas.len();
-    let unknown = applied(&[quota(entities, None)]);
+    let unknown = applied(&[rate(entities, None)]);
     facts.say(
         "empty quotas after removing from unknown entities",
         empty(&unknown),
     );
-    let last = applied(&[quota(entities, Some(1.0)), quota(entities, None)]);
+    let last = applied(&[rate(entities, Some(1.0)), rate(entities, None)]);
     facts.say("empty quotas after removing the last", empty(&last));
     facts.say("empty quotas restored", empty(&cut(&last)));
 }

@@ -38,59 +38,44 @@ fn shared(more: &[MetadataRecord]) -> MetadataImage {
     applied(&records)
 }
 
+/// Says what ids name, of topics a and b of id 1 and what came `after`.
+fn say_ids(facts: &mut Facts, after: &str, image: &MetadataImage, ids: &[u64]) {
+    for id in ids {
+        let what = format!("topics a and b of id 1{after}, id {id}");
+        facts.say(what, named(image, *id));
+    }
+}
+
 fn shared_ids(facts: &mut Facts) {
-    facts.say("topics a and b of id 1, id 1", named(&shared(&[]), 1));
+    say_ids(facts, "", &shared(&[]), &[1]);
     let deleted = shared(&[delete_topic("b")]);
-    facts.say(
-        "topics a and b of id 1, b deleted, id 1",
-        named(&deleted, 1),
-    );
+    say_ids(facts, ", b deleted", &deleted, &[1]);
     let other = shared(&[delete_topic("a")]);
-    facts.say("topics a and b of id 1, a deleted, id 1", named(&other, 1));
+    say_ids(facts, ", a deleted", &other, &[1]);
     facts.say(
         "topics a and b of id 1, a deleted, b stored",
         other.topic("b").is_some(),
     );
     let again = shared(&[topic("a", 1, 0, 1)]);
-    facts.say(
-        "topics a and b of id 1, a given again, id 1",
-        named(&again, 1),
-    );
+    say_ids(facts, ", a given again", &again, &[1]);
 }
 
 fn changed_ids(facts: &mut Facts) {
     let changed = shared(&[topic("a", 2, 0, 1)]);
-    facts.say(
-        "topics a and b of id 1, a changed to id 2, id 1",
-        named(&changed, 1),
-    );
-    facts.say(
-        "topics a and b of id 1, a changed to id 2, id 2",
-        named(&changed, 2),
-    );
+    say_ids(facts, ", a changed to id 2", &changed, &[1, 2]);
     let back = shared(&[topic("a", 2, 0, 1), topic("b", 1, 0, 1)]);
-    facts.say(
-        "topics a and b of id 1, a changed to id 2, b given again, id 1",
-        named(&back, 1),
-    );
+    say_ids(facts, ", a changed to id 2, b given again", &back, &[1]);
 }
 
 fn restored_ids(facts: &mut Facts) {
-    let last = shared(&[topic("a", 1, 0, 1)]);
-    facts.say(
-        "topics a and b of id 1, a given last, restored id 1",
-        named(&cut(&last), 1),
-    );
-    let deleted = shared(&[delete_topic("b")]);
-    facts.say(
-        "topics a and b of id 1, b deleted, restored id 1",
-        named(&cut(&deleted), 1),
-    );
-    let changed = shared(&[topic("a", 2, 0, 1)]);
-    facts.say(
-        "topics a and b of id 1, a changed to id 2, restored id 1",
-        named(&cut(&changed), 1),
-    );
+    for (after, record) in [
+        ("a given last", topic("a", 1, 0, 1)),
+        ("b deleted", delete_topic("b")),
+        ("a changed to id 2", topic("a", 2, 0, 1)),
+    ] {
+        let what = format!("topics a and b of id 1, {after}, restored id 1");
+        facts.say(what, named(&cut(&shared(&[record])), 1));
+    }
 }
 
 /// The stored count, 0, differs from the stored partitions' number, 1.

@@ -2,29 +2,20 @@
 //! it names what is stored.
 
 use krabka_metadata::{
-    BreakGlassAction, BreakGlassApproval, BreakGlassProposalRecord, BrokerConfigRecord,
+    BreakGlassApproval, BreakGlassProposalRecord, BrokerConfigRecord,
     BrokerRegistrationChangeRecord, BrokerRegistrationRecord, ClientMetricsConfigRecord,
     ClientQuotaRecord, ControllerRegistrationRecord, DeleteTopicRecord, FeatureLevelRecord,
-    FeaturesEpochRecord, FencingChange, GroupConfigRecord, KRaftVersionRecord, LeaderEpoch,
-    LeaderRecoveryState, MetadataImage, MetadataRecord, NodeId, PartitionDirAssignmentRecord,
-    PartitionElrRecord, PartitionOffsetAdvanceRecord, PartitionRecord, PartitionRecoveryRecord,
-    PartitionUpdateRecord, PatternType, ProducerIdsRecord, TopicConfigRecord, TopicFreezeRecord,
-    TopicRecord, UnregisterBrokerRecord, UnregisterControllerRecord,
+    FeaturesEpochRecord, GroupConfigRecord, KRaftVersionRecord, LeaderEpoch, LeaderRecoveryState,
+    MetadataImage, MetadataRecord, NodeId, PartitionDirAssignmentRecord, PartitionElrRecord,
+    PartitionOffsetAdvanceRecord, PartitionRecord, PartitionRecoveryRecord, PartitionUpdateRecord,
+    ProducerIdsRecord, TopicConfigRecord, TopicFreezeRecord, TopicRecord, UnregisterBrokerRecord,
+    UnregisterControllerRecord,
 };
 use uuid::Uuid;
+use wire::choices::{ACTIONS, FENCING_CHANGES, PATTERN_TYPES, RECOVERY_STATES};
 
 use super::Generator;
 use super::values::{SCOPES, TOPICS};
-
-const ACTIONS: [BreakGlassAction; 7] = [
-    BreakGlassAction::ThawTopicFreeze,
-    BreakGlassAction::UncleanElectLeaders,
-    BreakGlassAction::UncleanRecovery,
-    BreakGlassAction::UnregisterBroker,
-    BreakGlassAction::CancelReassignment,
-    BreakGlassAction::DeleteTopic,
-    BreakGlassAction::DeleteRecords,
-];
 
 const FEATURES: [&str; 5] = ["a", "b", "metadata.version", "", "𝄞"];
 
@@ -317,9 +308,7 @@ impl Generator {
     fn freeze(&mut self) -> TopicFreezeRecord {
         TopicFreezeRecord {
             scope: self.text_of(&SCOPES),
-            pattern_type: self
-                .random
-                .pick(&[PatternType::Literal, PatternType::Prefixed]),
+            pattern_type: self.random.pick(&PATTERN_TYPES),
             frozen: self.random.percent(75),
             reason: self.text(),
             set_by: self.text(),
@@ -370,10 +359,7 @@ impl Generator {
     }
 
     fn recovery_state(&mut self) -> LeaderRecoveryState {
-        self.random.pick(&[
-            LeaderRecoveryState::Recovered,
-            LeaderRecoveryState::Recovering,
-        ])
+        self.random.pick(&RECOVERY_STATES)
     }
 
     fn recovery(&mut self, image: &MetadataImage) -> PartitionRecoveryRecord {
@@ -399,11 +385,7 @@ impl Generator {
         BrokerRegistrationChangeRecord {
             node_id,
             broker_epoch,
-            fenced: self.random.pick(&[
-                FencingChange::Unfence,
-                FencingChange::None,
-                FencingChange::Fence,
-            ]),
+            fenced: self.random.pick(&FENCING_CHANGES),
             in_controlled_shutdown: self.flag(),
             log_dirs: self.ids(),
             cordoned_log_dirs: self.maybe(60, Self::ids),

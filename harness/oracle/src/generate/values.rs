@@ -1,9 +1,11 @@
 //! The values of a record's fields.
 
 use std::collections::BTreeMap;
+use std::ops::{Range, RangeInclusive};
 
-use krabka_metadata::{BreakGlassApproval, BrokerEndpoint, ListenerProtocol, NodeId, QuotaEntity};
+use krabka_metadata::{BreakGlassApproval, BrokerEndpoint, NodeId, QuotaEntity};
 use uuid::Uuid;
+use wire::choices::PROTOCOLS;
 
 use super::Generator;
 
@@ -75,6 +77,11 @@ impl Generator {
         self.random.below(4)
     }
 
+    fn list<T>(&mut self, limit: usize, draw: impl Fn(&mut Self) -> T) -> Vec<T> {
+        let count = self.length(limit);
+        (0..count).map(|_| draw(self)).collect()
+    }
+
     pub(super) fn text_of(&mut self, pool: &[&str]) -> String {
         if self.extreme() {
             return self.long_text();
@@ -115,31 +122,25 @@ impl Generator {
         self.random.percent(percent).then(|| draw(self))
     }
 
-    pub(super) fn i64(&mut self) -> i64 {
+    /// One of `few`, or a number at an end of its type's range, or next to one.
+    fn number(&mut self, range: RangeInclusive<i64>, few: Range<i64>) -> i64 {
+        let (least, most) = range.into_inner();
         if self.extreme() {
-            return self
-                .random
-                .pick(&[i64::MIN, i64::MIN + 1, i64::MAX, i64::MAX - 1]);
+            return self.random.pick(&[least, least + 1, most, most - 1]);
         }
-        self.random.below(8) as i64 - 2
+        few.start + self.random.below((few.end - few.start) as usize) as i64
+    }
+
+    pub(super) fn i64(&mut self) -> i64 {
+        self.number(i64::MIN..=i64::MAX, -2..6)
     }
 
     pub(super) fn i32(&mut self) -> i32 {
-        if self.extreme() {
-            return self
-                .random
-                .pick(&[i32::MIN, i32::MIN + 1, i32::MAX, i32::MAX - 1]);
-        }
-        self.random.below(6) as i32 - 1
+        self.number(i32::MIN.into()..=i32::MAX.into(), -1..5) as i32
     }
 
     pub(super) fn i16(&mut self) -> i16 {
-        if self.extreme() {
-            return self
-                .random
-                .pick(&[i16::MIN, i16::MIN + 1, i16::MAX, i16::MAX - 1]);
-        }
-        self.random.below(6) as i16 - 1
+        self.number(i16::MIN.into()..=i16::MAX.into(), -1..5) as i16
     }
 
     pub(super) fn u16(&mut self) -> u16 {
@@ -166,8 +167,7 @@ impl Generator {
     }
 
     pub(super) fn nodes(&mut self) -> Vec<NodeId> {
-        let count = self.length(64);
-        self.some_nodes(count)
+        self.list(64, Self::node)
     }
 
     /// One of few ids; the first is `MIGRATING`.
@@ -177,13 +177,12 @@ impl Generator {
     }
 
     pub(super) fn ids(&mut self) -> Vec<Uuid> {
-        let count = self.length(64);
-        (0..count).map(|_| self.id()).collect()
+        self.list(64, Self::id)
     }
 
     pub(super) fn signature(&mut self) -> Vec<u8> {
         let count = self.length(512);
-        (0..count).map(|_| self.random.bits() as u8).collect()
+        self.random.bytes(count)
     }
 
     pub(super) fn quota(&mut self) -> f64 {
@@ -225,8 +224,7 @@ impl Generator {
     }
 
     pub(super) fn endpoints(&mut self) -> Vec<BrokerEndpoint> {
-        let count = self.length(16);
-        (0..count).map(|_| self.endpoint()).collect()
+        self.list(16, Self::endpoint)
     }
 
     fn endpoint(&mut self) -> BrokerEndpoint {
@@ -234,19 +232,13 @@ impl Generator {
             name: self.text(),
             host: self.text(),
             port: self.u16(),
-            protocol: self.random.pick(&[
-                ListenerProtocol::Plaintext,
-                ListenerProtocol::Ssl,
-                ListenerProtocol::SaslPlaintext,
-                ListenerProtocol::SaslSsl,
-            ]),
+            protocol: self.random.pick(&PROTOCOLS),
         }
     }
 
     /// Entities of few types, so that equal types meet in one list.
     pub(super) fn entities(&mut self) -> Vec<QuotaEntity> {
-        let count = self.length(8);
-        (0..count).map(|_| self.entity()).collect()
+        self.list(8, Self::entity)
     }
 
     fn entity(&mut self) -> QuotaEntity {

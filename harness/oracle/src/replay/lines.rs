@@ -1,27 +1,20 @@
 //! The lines of the two files.
 
 use std::collections::BTreeSet;
-use std::fmt::Write;
 
-use krabka_metadata::{MetadataRecord, NodeId, ThrottleKind};
-use wire::{damaged, encode};
+use krabka_metadata::{MetadataRecord, NodeId};
+use wire::choices::THROTTLE_KINDS;
+use wire::{OVER_A_LIMIT, Random, WRONG_FIELD, damaged, encoded, encoded_all};
 
 use super::plan::Plan;
-use super::run::{Run, bytes, written};
-use super::{
-    CUT, DOWNGRADE, FREEZE, NO_IMAGE, NO_ROOM, OFFSET_LEAVES, OPEN, PARTITION, RESTORE, SNAPSHOT,
-    STEP, Stored, THROTTLE, WRONG, random,
-};
+use super::run::{Run, written};
+use super::{CUT, DOWNGRADE, FREEZE, OPEN, PARTITION, RESTORE, SNAPSHOT, STEP, THROTTLE};
 use crate::downgrade::downgrade;
 use crate::facts::build::broker_config;
 use crate::image::FIXED_ROOM;
-use crate::verdict::ACCEPTED;
+use crate::stored::Stored;
+use crate::verdict::{ACCEPTED, NO_IMAGE, NO_OFFSET, NO_ROOM};
 
-const KINDS: [ThrottleKind; 3] = [
-    ThrottleKind::Leader,
-    ThrottleKind::Follower,
-    ThrottleKind::AlterLogDirs,
-];
 const LEADER: &str = "leader.replication.throttled.rate";
 const LEVELS: [i16; 4] = [-1, 16, 29, 30];
 /// After how many steps questions come.
@@ -39,10 +32,7 @@ pub struct Lines {
 impl Lines {
     pub fn new(head: &str) -> Self {
         Self {
-            stored: Stored {
-                stdin: head.to_owned(),
-                stdout: String::new(),
-            },
+            stored: Stored::new(head),
             place: 0,
             verdicts: BTreeSet::new(),
             numbers: BTreeSet::new(),
@@ -52,7 +42,7 @@ impl Lines {
 
     pub fn history(&mut self, plan: &Plan, capacity: usize, inputs: &[Vec<u8>]) {
         let (number, place) = (plan.number, self.place + 1);
-        self.name(&format!(
+        self.stored.title(&format!(
             "history {number} at {capacity}, from place {place}"
         ));
         let mut run = self.open(capacity);
@@ -72,26 +62,21 @@ impl Lines {
 
     /// "capacity 127 is 1, 65,537 is 1; throttle "+5" is 5, "-0" is 0, "-1" none."
     pub fn checked_by_hand(&mut self) {
-        self.name("checked by hand: no capacities");
+        self.stored.title("checked by hand: no capacities");
         for capacity in [127, 65_537] {
             let run = self.open(capacity);
             assert!(!run.is_image());
         }
-        self.name("checked by hand: throttles");
+        self.stored.title("checked by hand: throttles");
         let mut run = self.open(FIXED_ROOM * 4);
         for (value, rate) in [("+5", Some(5)), ("-0", Some(0)), ("-1", None)] {
-            let record =
-                encode(&broker_config(1, LEADER, Some(value))).expect("a kind that 01 has");
+            let record = encoded(&broker_config(1, LEADER, Some(value)));
             self.step(&mut run, STEP, &record);
             let node = NodeId(1);
-            let said = run.image.broker_throttle_rate(node, KINDS[0]);
+            let said = run.image.broker_throttle_rate(node, THROTTLE_KINDS[0]);
             assert_eq!(said.map(|said| said.bytes_per_sec), rate);
             self.throttle(&run, node, 0);
         }
-    }
-
-    fn name(&mut self, what: &str) {
-        writeln!(self.stored.stdin, "# {what}").expect("a string takes it");
     }
 
     fn open(&mut self, capacity: usize) -> Run {
@@ -133,16 +118,16 @@ impl Lines {
     fn found(&mut self, run: &Run, operation: u8, rest: &[u8], record: Option<MetadataRecord>) {
         let record: Vec<MetadataRecord> = record.into_iter().collect();
         let answer = match run.is_image() {
-            true => written(&bytes(&record)),
+            true => written(&encoded_all(&record)),
             false => format!(" {NO_IMAGE}"),
         };
         self.push(operation, rest, &answer);
     }
 
     fn throttle(&mut self, run: &Run, node: NodeId, kind: u8) {
-        let rate = match KINDS.get(usize::from(kind)) {
+        let rate = match THROTTLE_KINDS.get(usize::from(kind)) {
             _ if !run.is_image() => format!(" {NO_IMAGE}"),
-            None => format!(" {WRONG}"),
+            None => format!(" {WRONG_FIELD}"),
             Some(kind) => match run.image.broker_throttle_rate(node, *kind) {
                 Some(rate) => format!(" 0 {}", rate.bytes_per_sec),
                 None => " 0".to_owned(),
@@ -159,7 +144,7 @@ impl Lines {
         }
         self.push(SNAPSHOT, &[], &written(&run.snapshot()));
         for level in LEVELS {
-            let answer = written(&bytes(&downgrade(&run.image, level)));
+            let answer = written(&encoded_all(&downgrade(&run.image, level)));
             self.push(DOWNGRADE, &level.to_be_bytes(), &answer);
         }
     }
@@ -170,7 +155,7 @@ impl Lines {
             return;
         }
         let snapshot = run.snapshot();
-        let mut random = random(plan.number);
+        let mut random = Random::beside(plan.number);
         let cut = snapshot[..snapshot.len() * 2 / 3].to_vec();
         let any = damaged(&mut random, &snapshot);
         for input in [inputs.concat(), cut, any] {
@@ -206,17 +191,15 @@ impl Lines {
 
     fn push(&mut self, operation: u8, rest: &[u8], answer: &str) {
         self.place += 1;
-        let line = [&[operation], rest].concat();
-        let digits: String = line.iter().map(|byte| format!("{byte:02x}")).collect();
-        writeln!(self.stored.stdin, "{digits}").expect("a string takes it");
-        writeln!(self.stored.stdout, "{}{answer}", self.place).expect("a string takes it");
+        let answer = format!("{}{answer}", self.place);
+        self.stored.push(operation, &[rest], &answer);
     }
 
     /// Every kind has been accepted and applied, and every number has been an answer.
     pub fn check(&self) {
         assert_eq!(self.kinds, (1..=25).collect());
         assert_eq!(self.verdicts, (0..=16).collect());
-        let numbers = (0..=5).chain([OFFSET_LEAVES, NO_ROOM]);
+        let numbers = (ACCEPTED..=OVER_A_LIMIT).chain([NO_OFFSET, NO_ROOM]);
         assert_eq!(self.numbers, numbers.collect());
     }
 }

@@ -1,10 +1,10 @@
 //! How the stored histories are drawn.
 
 use krabka_metadata::MetadataImage;
-use wire::{damaged, encode};
+use wire::{Random, damaged, encoded};
 
 use super::run::Run;
-use super::{STEP, STEP_ALWAYS, random};
+use super::{STEP, STEP_ALWAYS};
 use crate::generate::{Generator, Knobs};
 use crate::image::{FIXED_ROOM, MOST_CAPACITY, weight};
 
@@ -62,7 +62,7 @@ impl Plan {
     /// The records' bytes, drawn with a view of an image that has room.
     pub fn inputs(&self) -> Vec<Vec<u8>> {
         let mut generator = Generator::new(SEED + self.number, self.knobs);
-        let mut random = random(SEED + self.number);
+        let mut random = Random::beside(SEED + self.number);
         let mut run = Run::at(MOST_CAPACITY);
         let mut inputs = Vec::with_capacity(self.steps);
         for place in 1..=self.steps {
@@ -115,7 +115,7 @@ impl Plan {
 fn next(generator: &mut Generator, image: &MetadataImage) -> Vec<u8> {
     loop {
         let record = generator.record(image);
-        let bytes = encode(&record).expect("a kind that 01 has");
+        let bytes = encoded(&record);
         if bytes.len() <= LONGEST {
             return bytes;
         }

@@ -2,13 +2,13 @@
 
 use krabka_metadata::{MetadataImage, MetadataRecord};
 use uuid::Uuid;
-use wire::{decode, encode};
+use wire::{TOO_SHORT, decode, encoded_all};
 
-use super::{NO_IMAGE, NO_ROOM, OFFSET_LEAVES, STEP_ALWAYS, TOO_SHORT};
+use super::STEP_ALWAYS;
 use crate::image::{FIXED_ROOM, MOST_CAPACITY, image};
 use crate::layout::HEAD_SIZE;
 use crate::observe::{Observed, Witness, observe, restored};
-use crate::verdict::{ACCEPTED, offset_leaves_i64, verdict};
+use crate::verdict::{ACCEPTED, NO_IMAGE, NO_OFFSET, NO_ROOM, offset_leaves_i64, verdict};
 
 /// What Open finds in its buffer.
 const DIRT: u8 = 0xaa;
@@ -69,7 +69,7 @@ impl Run {
             Err(number) => return number,
         };
         if offset_leaves_i64(&self.image, &record) {
-            return OFFSET_LEAVES;
+            return NO_OFFSET;
         }
         let (mut after, mut witness) = (self.image.clone(), self.witness.clone());
         after.apply(&record);
@@ -87,7 +87,7 @@ impl Run {
 
     /// The snapshot's bytes.
     pub fn snapshot(&self) -> Vec<u8> {
-        bytes(&self.observed().records)
+        encoded_all(&self.observed().records)
     }
 
     /// The image that `from_records` makes of the snapshot.
@@ -121,13 +121,6 @@ impl Run {
         let used = self.buffer[8..12].try_into().expect("four bytes");
         format!(" {} {digest}", u32::from_be_bytes(used))
     }
-}
-
-pub fn bytes(records: &[MetadataRecord]) -> Vec<u8> {
-    let encoded = records.iter().map(encode);
-    encoded
-        .flat_map(|record| record.expect("a kind that 01 has"))
-        .collect()
 }
 
 /// The answer of an operation that writes records: how many bytes, and their digest; or 19.

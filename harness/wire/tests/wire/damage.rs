@@ -1,7 +1,7 @@
 //! No bytes make the reader panic, and what it accepts has one encoding.
 
 use krabka_metadata::MetadataRecord;
-use wire::{HEADER, PAST_THE_END, damaged, decode, encode, read};
+use wire::{HEADER, PAST_THE_END, Random, damaged, decode, encode, read};
 
 use crate::samples;
 
@@ -63,26 +63,15 @@ fn changed_bytes_hold() {
     }
 }
 
-/// A linear congruential generator whose high bits are handed out.
-fn numbers(seed: u64) -> impl FnMut() -> u64 {
-    let mut state = seed;
-    move || {
-        state = state
-            .wrapping_mul(6_364_136_223_846_793_005)
-            .wrapping_add(1_442_695_040_888_963_407);
-        state >> 33
-    }
-}
-
 #[test]
 fn damaged_records_hold() {
-    let rng = &mut numbers(1);
+    let random = &mut Random::new(1);
     let good = good();
     let mut answers = [0; 6];
     for _ in 0..2_000 {
         for bytes in &good {
-            let once = damaged(rng, bytes);
-            let twice = damaged(rng, &once);
+            let once = damaged(random, bytes);
+            let twice = damaged(random, &once);
             holds(&once);
             holds(&twice);
             answers[usize::from(read(&once).err().unwrap_or(0))] += 1;
@@ -95,11 +84,11 @@ fn damaged_records_hold() {
 
 #[test]
 fn any_bytes_can_be_damaged() {
-    let rng = &mut numbers(2);
+    let random = &mut Random::new(2);
     for length in 0..8 {
         let bytes: Vec<u8> = (0..length).collect();
         for _ in 0..1_000 {
-            holds(&damaged(rng, &bytes));
+            holds(&damaged(random, &bytes));
         }
     }
 }

@@ -1,6 +1,6 @@
 -- `partitions::is_partition_of` meets its contract: the kind decides, then the name.
 use native.Mathlib.Omega.{arith}
-use Rattle.stored.proofs.Records.{headed}
+use Rattle.image_entries.proofs.Records.{headed}
 use Rattle.judge.proofs.Counted.{not-of, is-of}
 use Rattle.judge.proofs.partitions.is_partition_of.Statement.{statement}
 use Rattle.judge.proofs.partitions.is_partition_of.Tie as tie

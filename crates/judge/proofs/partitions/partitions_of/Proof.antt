@@ -8,7 +8,7 @@ use Rattle.model.specs.Run.{value}
 use Rattle.keys.specs.Keys.{runIn}
 use Rattle.keys.proofs.Keys.{known-bytes}
 use Rattle.entries.proofs.Turns.{Stands, stands, ended, not-torn, turn-falls}
-use Rattle.stored.proofs.Turns.{forward, inside, is-record}
+use Rattle.image_entries.proofs.Turns.{forward, inside, is-record}
 use Rattle.judge.proofs.Counted.{Counted, counted-start, counted-all, room, counted-one, counted-other}
 use Rattle.judge.proofs.partitions.partitions_of.Statement.{statement}
 use Rattle.judge.proofs.partitions.partitions_of.Tie as tie

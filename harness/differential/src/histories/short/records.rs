@@ -1,28 +1,11 @@
 //! Records in a few words, beside those that the facts have.
 
 use krabka_metadata::{
-    BreakGlassAction, BreakGlassApproval, BreakGlassProposalRecord, BrokerRegistrationChangeRecord,
-    ClientMetricsConfigRecord, ClientQuotaRecord, ControllerRegistrationRecord, FencingChange,
-    GroupConfigRecord, KRaftVersionRecord, LeaderRecoveryState, MetadataRecord, NodeId,
-    PartitionRecoveryRecord, PartitionUpdateRecord, QuotaEntity, UnregisterBrokerRecord,
-    UnregisterControllerRecord,
+    BreakGlassApproval, BreakGlassProposalRecord, BrokerRegistrationChangeRecord,
+    ControllerRegistrationRecord, FencingChange, LeaderRecoveryState, MetadataRecord, NodeId,
+    PartitionUpdateRecord, UnregisterBrokerRecord, UnregisterControllerRecord,
 };
-use oracle::facts::build::{broker, id, nodes, partition};
-
-/// Type and name of each entity.
-pub type Entities<'a> = &'a [(&'a str, Option<&'a str>)];
-
-pub fn quota(entities: Entities, key: &str, value: Option<f64>) -> MetadataRecord {
-    let entity = |(entity_type, entity_name): &(&str, Option<&str>)| QuotaEntity {
-        entity_type: entity_type.to_string(),
-        entity_name: entity_name.map(str::to_owned),
-    };
-    MetadataRecord::V1ClientQuota(ClientQuotaRecord {
-        entity: entities.iter().map(entity).collect(),
-        config_key: key.to_owned(),
-        config_value: value,
-    })
-}
+use oracle::facts::build::{self, approval, broker, id, nodes, partition};
 
 /// A broker with a log directory, which no other epoch has.
 pub fn registration(node: u64, epoch: i64) -> MetadataRecord {
@@ -60,29 +43,14 @@ pub fn unregister(node: u64, epoch: i64) -> MetadataRecord {
 pub fn controller(node: u64, incarnation: u64, feature: Option<&str>) -> MetadataRecord {
     let feature = feature.map(|name| (name.to_owned(), (0, 1)));
     MetadataRecord::V1ControllerRegistration(ControllerRegistrationRecord {
-        node_id: NodeId(node),
-        incarnation_id: id(incarnation),
-        zk_migration_ready: false,
-        endpoints: Vec::new(),
         features: feature.into_iter().collect(),
+        ..build::controller(node, incarnation)
     })
 }
 
 pub fn unregister_controller(node: u64) -> MetadataRecord {
     MetadataRecord::V1UnregisterController(UnregisterControllerRecord {
         node_id: NodeId(node),
-    })
-}
-
-pub fn kraft(kraft_version: u16) -> MetadataRecord {
-    MetadataRecord::V1KRaftVersion(KRaftVersionRecord { kraft_version })
-}
-
-pub fn recovered(topic: &str, number: i32) -> MetadataRecord {
-    MetadataRecord::V1PartitionRecovery(PartitionRecoveryRecord {
-        topic: topic.to_owned(),
-        partition: number,
-        state: LeaderRecoveryState::Recovered,
     })
 }
 
@@ -100,25 +68,6 @@ pub fn update(
     })
 }
 
-fn owned(pairs: &[(&str, &str)]) -> Vec<(String, String)> {
-    let pair = |(key, value): &(&str, &str)| (key.to_string(), value.to_string());
-    pairs.iter().map(pair).collect()
-}
-
-pub fn metrics(name: &str, configs: &[(&str, &str)]) -> MetadataRecord {
-    MetadataRecord::V1ClientMetricsConfig(ClientMetricsConfigRecord {
-        name: name.to_owned(),
-        configs: owned(configs).into_iter().collect(),
-    })
-}
-
-pub fn group(name: &str, configs: &[(&str, &str)]) -> MetadataRecord {
-    MetadataRecord::V1GroupConfig(GroupConfigRecord {
-        group_id: name.to_owned(),
-        configs: owned(configs).into_iter().collect(),
-    })
-}
-
 /// A proposal approved by these principals; consumed at 0 means not consumed.
 pub fn proposal(
     number: u64,
@@ -126,23 +75,16 @@ pub fn proposal(
     consumed: i64,
     withdrawn: bool,
 ) -> MetadataRecord {
-    let approval = |principal: &&str| BreakGlassApproval {
-        principal: principal.to_string(),
-        approved_at_ms: 1,
-        key_id: String::new(),
+    let signed = |principal: &&str| BreakGlassApproval {
         signature: vec![1],
+        ..approval(principal)
     };
     MetadataRecord::V1BreakGlassProposal(BreakGlassProposalRecord {
-        proposal_id: id(number),
-        action: BreakGlassAction::DeleteTopic,
         target: "p".to_owned(),
-        proposer: String::new(),
-        reason: String::new(),
-        created_at_ms: 0,
-        expires_at_ms: 0,
-        approvals: principals.iter().map(approval).collect(),
+        approvals: principals.iter().map(signed).collect(),
         consumed_at_ms: consumed,
         withdrawn,
+        ..build::proposal(id(number))
     })
 }
 

@@ -2,14 +2,14 @@
 
 use krabka_metadata::{FencingChange, LeaderRecoveryState, MetadataRecord, PatternType};
 use oracle::facts::build::{
-    broker_config, delete_topic, dir_assignment, elr, feature_level, features_epoch, freeze, id,
-    offset_advance, partition, partition_record, producer_ids, recovering, thaw, topic,
-    topic_config,
+    broker_config, delete_topic, dir_assignment, elr, feature_level, features_epoch, freeze,
+    group_config, id, kraft_version, metrics_config, offset_advance, partition, partition_record,
+    producer_ids, quota, recovered, recovering, thaw, topic, topic_config,
 };
 
 use super::records::{
-    change, controller, delete_proposal, group, kraft, metrics, proposal, quota, recovered,
-    registration, unregister, unregister_controller, update,
+    change, controller, delete_proposal, proposal, registration, unregister, unregister_controller,
+    update,
 };
 
 type Set = (&'static str, Vec<MetadataRecord>);
@@ -131,9 +131,9 @@ fn controllers() -> Vec<MetadataRecord> {
         controller(2, 1, Some("")),
         unregister_controller(1),
         unregister_controller(2),
-        kraft(1),
-        kraft(0),
-        kraft(u16::MAX),
+        kraft_version(1),
+        kraft_version(0),
+        kraft_version(u16::MAX),
         registration(1, 1),
     ]
 }
@@ -241,11 +241,11 @@ fn configs() -> Vec<MetadataRecord> {
         topic_config("a", &[("k", "v")]),
         topic_config("a", &[("k", "v"), ("l", "")]),
         topic_config("a", &[]),
-        metrics("a", &[("k", "v")]),
-        metrics("a", &[]),
-        metrics("", &[("", "")]),
-        group("a", &[("k", "v")]),
-        group("a", &[("", "longer"), ("k", "w")]),
-        group("a", &[]),
+        metrics_config("a", &[("k", "v")]),
+        metrics_config("a", &[]),
+        metrics_config("", &[("", "")]),
+        group_config("a", &[("k", "v")]),
+        group_config("a", &[("", "longer"), ("k", "w")]),
+        group_config("a", &[]),
     ]
 }

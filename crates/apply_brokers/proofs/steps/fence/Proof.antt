@@ -1,0 +1,52 @@
+-- `steps::fence` meets its contract: one exit for each kind of fencing.
+use borrow.Author.Needs.{needs}
+use native.Mathlib.Omega.{arith}
+use lib.Dec.{lit<}
+use Rattle.apply_brokers.proofs.Fields.{fencing-width, fenced-suits, unfenced, still-fenced, fenced}
+use Rattle.apply_brokers.proofs.steps.fence.Statement.{statement}
+use Rattle.apply_brokers.proofs.steps.fence.Tie as tie
+
+number-of-requires : tie.Need-number-of-requires
+number-of-requires c κs = (c .before .before .pre .1 .is, omega arith, fencing-width _ (c .before .before .pre .1))
+
+slice-aggregate-replace : tie.Need-slice-aggregate-replace
+slice-aggregate-replace c = search needs
+
+replace-requires : tie.Need-replace-requires
+replace-requires c κs = (c .before .before .before .before .before .before .pre .0, fenced-suits _ (lit< tt))
+
+same-length : tie.Need-same-length
+same-length c = search needs
+
+returns : tie.Need-returns
+returns c = unfenced _ (c .before .before .before .before .before .before .number-of .ensures) _ (c .before .before .before .before .before .if1 .taken) (c .before .before .replace .ensures)
+
+returns-2 : tie.Need-returns-2
+returns-2 c = still-fenced _ (c .before .before .number-of .ensures) _ (c .if2 .taken) (c .before .before .before .before .before .pre .0)
+
+slice-aggregate-replace-2 : tie.Need-slice-aggregate-replace-2
+slice-aggregate-replace-2 c = search needs
+
+replace-requires-2 : tie.Need-replace-requires-2
+replace-requires-2 c κs = (c .before .before .before .before .before .before .before .pre .0, fenced-suits _ (lit< tt))
+
+same-length-2 : tie.Need-same-length-2
+same-length-2 c = search needs
+
+returns-3 : tie.Need-returns-3
+returns-3 c = fenced _ (c .before .before .before .before .before .before .before .number-of .ensures) _ (c .before .before .before .before .before .before .if1 .left) (c .before .before .before .before .before .if2 .left) (c .before .before .replace2 .ensures)
+
+pub fence-spec : {M : Type 1} → statement M
+fence-spec =
+    tie.close
+    (tie.spec
+    number-of-requires
+    slice-aggregate-replace
+    replace-requires
+    same-length
+    returns
+    returns-2
+    slice-aggregate-replace-2
+    replace-requires-2
+    same-length-2
+    returns-3)

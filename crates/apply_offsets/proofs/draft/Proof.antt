@@ -1,0 +1,46 @@
+-- `apply_offsets::draft` meets its contract: the advance is copied, and its field 3 set.
+use borrow.Author.Needs.{needs}
+use mathlib.Core.Path.{ap, _∙_}
+use native.Mathlib.Omega.{arith}
+use Rattle.model.specs.Number.{bytes}
+use Rattle.apply_work.proofs.Made.{record-size}
+use Rattle.apply_offsets.proofs.Stores.{copied-draft, offset-drafted}
+use Rattle.apply_offsets.proofs.draft.Statement.{statement}
+use Rattle.apply_offsets.proofs.draft.Tie as tie
+
+slice-aggregate-put : tie.Need-slice-aggregate-put
+slice-aggregate-put c = search needs
+
+turned-requires : tie.Need-turned-requires
+turned-requires c κs = search needs
+
+put-requires : tie.Need-put-requires
+put-requires c κs = search needs
+
+copy-in-requires : tie.Need-copy-in-requires
+copy-in-requires c κs = omega (arith, record-size _ (c .before .before .before .before .before .before .before .pre .0), c .before .before .before .before .before .before .before .pre .2)
+
+slice-aggregate-set-field : tie.Need-slice-aggregate-set-field
+slice-aggregate-set-field c = search needs
+
+set-field-requires : tie.Need-set-field-requires
+set-field-requires c κs = (omega (arith, record-size _ (c .before .before .before .before .before .before .before .before .before .before .before .before .pre .0), c .before .before .before .before .copy-in .ensures .0, c .before .before .before .before .before .before .before .put .kept .0, c .before .before .before .before .copy-in .kept .0, c .before .before .before .before .before .before .before .before .before .before .before .before .pre .2), omega (arith, c .before .before .before .before .before .before .before .put .kept .0), copied-draft _ (c .before .before .before .before .before .before .before .before .before .before .before .before .pre .0) (c .before .before .before .before .before .before .before .before .before .before .before .before .pre .1) (c .before .before .before .before .copy-in .last .0) (c .before .before .before .before .copy-in .result) (c .before .before .before .before .copy-in .ensures .1))
+
+same-length : tie.Need-same-length
+same-length c = search needs
+
+returns : tie.Need-returns
+returns c = (offset-drafted _ (c .before .before .before .before .before .before .before .before .before .before .before .before .before .before .before .pre .0) (c .before .before .before .before .before .before .before .before .before .before .before .before .before .before .before .pre .1) (c .before .before .before .before .before .before .before .copy-in .last .0) (c .before .before .before .before .before .before .before .copy-in .result) (c .before .before .before .before .before .before .before .copy-in .ensures .1) (c .before .before .before .before .before .before .before .before .before .before .before .before .before .before .before .args .offset) (c .before .before .before .before .before .before .before .before .before .before .put .ensures ∙ ap (bytes 8) (c .before .before .before .before .before .before .before .before .before .before .before .turned .ensures)) (c .before .before .set-field .ensures .0), omega (arith, c .before .before .set-field .ensures .1, record-size _ (c .before .before .before .before .before .before .before .before .before .before .before .before .before .before .before .pre .0), c .before .before .before .before .before .before .before .copy-in .ensures .0, c .before .before .before .before .before .before .before .before .before .before .put .kept .0))
+
+pub draft-spec : {M : Type 1} → statement M
+draft-spec =
+    tie.close
+    (tie.spec
+    slice-aggregate-put
+    turned-requires
+    put-requires
+    copy-in-requires
+    slice-aggregate-set-field
+    set-field-requires
+    same-length
+    returns)

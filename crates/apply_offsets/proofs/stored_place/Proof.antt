@@ -1,0 +1,41 @@
+-- `apply_offsets::stored_place` meets its contract: the entry of the advance's key is sought, and nothing stored counts as 0.
+use borrow.Author.Needs.{needs}
+use native.Mathlib.Omega.{arith}
+use Rattle.keys.proofs.Keys.{known-bytes}
+use Rattle.entries.proofs.Changes.{is-keyed}
+use Rattle.apply_offsets.proofs.Offsets.{no-offset, offset-asked, offset-place}
+use Rattle.apply_offsets.proofs.stored_place.Statement.{statement}
+use Rattle.apply_offsets.proofs.stored_place.Tie as tie
+
+seek-requires : tie.Need-seek-requires
+seek-requires c κs = (c .before .before .pre .0, is-keyed _ (c .before .before .pre .1))
+
+returns : tie.Need-returns
+returns c = no-offset _ (c .before .before .before .before .pre .1) (c .before .before .before .before .pre .2) _ (c .before .seek .ensures) (c .if1 .taken)
+
+sub-place-in : tie.Need-sub-place-in
+sub-place-in c = search needs
+
+part-place-in-start : tie.Need-part-place-in-start
+part-place-in-start c = search needs
+
+part-place-in-end : tie.Need-part-place-in-end
+part-place-in-end c = search needs
+
+place-in-requires : tie.Need-place-in-requires
+place-in-requires c κs = offset-asked _ (c .before .before .before .before .before .pre .1) (c .before .before .before .before .before .pre .2) _ (c .before .before .seek .ensures) (known-bytes (c .before .before .before .before .before .args .s .now) (λ i. omega (arith, c .before .before .before .before .shared-slice-known .given i))) (c .before .before .before .before .before .pre .0) (c .before .if1 .left)
+
+returns-2 : tie.Need-returns-2
+returns-2 c = offset-place _ (c .before .before .before .before .before .before .pre .1) (c .before .before .before .before .before .before .pre .2) _ (c .before .before .before .seek .ensures) (known-bytes (c .before .before .before .before .before .before .args .s .now) (λ i. omega (arith, c .before .before .before .before .before .shared-slice-known .given i))) (c .before .before .before .before .before .before .pre .0) (c .before .before .if1 .left) (c .place-in .ensures)
+
+pub stored-place-spec : {M : Type 1} → statement M
+stored-place-spec =
+    tie.close
+    (tie.spec
+    seek-requires
+    returns
+    sub-place-in
+    part-place-in-start
+    part-place-in-end
+    place-in-requires
+    returns-2)

@@ -1,0 +1,27 @@
+-- `apply_offsets::sum_of` meets its contract: the two places are those of the stored offset and of the advance.
+use borrow.Author.Needs.{needs}
+use Rattle.model.specs.Run.{value}
+use Rattle.model.specs.Move.{storedOffset}
+use Rattle.entries.specs.Entries.{recordIn}
+use Rattle.judge.specs.Judge.{entriesIn}
+use Rattle.apply_offsets.proofs.Sums.{sum-is}
+use Rattle.apply_offsets.proofs.Offsets.{advance-asked, advance-place}
+use Rattle.apply_offsets.proofs.sum_of.Statement.{statement}
+use Rattle.apply_offsets.proofs.sum_of.Tie as tie
+
+stored-place-requires : tie.Need-stored-place-requires
+stored-place-requires c κs = search needs
+
+place-in-requires : tie.Need-place-in-requires
+place-in-requires c κs = advance-asked _ (c .before .before .before .pre .1) (c .before .before .before .pre .2)
+
+add-requires : tie.Need-add-requires
+add-requires c κs = search needs
+
+returns : tie.Need-returns
+returns c =
+    let run = recordIn (c .before .before .before .before .before .args .rec .now) .run in
+    sum-is (storedOffset run (entriesIn (c .before .before .before .before .before .args .s .now))) (value 3 run) (c .before .before .stored-place .ensures) (advance-place _ (c .before .before .before .before .before .pre .1) (c .before .before .before .before .before .pre .2) (c .before .place-in .ensures)) (c .add .ensures)
+
+pub sum-of-spec : {M : Type 1} → statement M
+sum-of-spec = tie.close (tie.spec stored-place-requires place-in-requires add-requires returns)

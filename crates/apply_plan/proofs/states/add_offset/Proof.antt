@@ -1,0 +1,59 @@
+-- `states::add_offset` meets its contract: 17 where the sum leaves i64, else the sum is stored.
+use borrow.Author.Needs.{needs}
+use mathlib.Core.Path.{refl, sym, subst, _∙_}
+use native.Mathlib.Omega.{arith}
+use lib.Seq.{length-take-le}
+use Rattle.entries.specs.Entries.{recordIn}
+use Rattle.apply_plan.specs.Plans.{Added}
+use Rattle.apply_plan.proofs.states.add_offset.Statement.{statement}
+use Rattle.apply_plan.proofs.states.add_offset.Tie as tie
+
+slice-reshare-prefix-overflows : tie.Need-slice-reshare-prefix-overflows
+slice-reshare-prefix-overflows c = search needs
+
+slice-aggregate-overflows : tie.Need-slice-aggregate-overflows
+slice-aggregate-overflows c =
+    let start = c .before .before .before .before .before in
+    sym (length-take-le _ _ (omega (arith, start .pre .0 .order, start .pre .0 .fits)))
+
+overflows-requires : tie.Need-overflows-requires
+overflows-requires c κs = search needs
+
+same-length : tie.Need-same-length
+same-length c = search needs
+
+returns : tie.Need-returns
+returns c = (refl, sym (c .before .overflows .ensures) ∙ c .if1 .taken)
+
+advance-requires : tie.Need-advance-requires
+advance-requires c κs = search needs
+
+with-room-requires : tie.Need-with-room-requires
+with-room-requires c κs = search needs
+
+same-length-2 : tie.Need-same-length-2
+same-length-2 c = search needs
+
+same-length-3 : tie.Need-same-length-3
+same-length-3 c = search needs
+
+returns-2 : tie.Need-returns-2
+returns-2 c =
+    let start = c .before .before .before .before .before .before .before .before .before .before .before .before .before .before .before in
+    subst (Added (recordIn (start .args .rec .now) .run) (start .args .w .now) (start .args .state) (c .before .before .before .before .before .advance .last .0)) (sym (c .with-room .ensures))
+    (sym (c .before .before .before .before .before .before .before .before .before .overflows .ensures) ∙ c .before .before .before .before .before .before .before .before .if1 .left, c .before .before .before .before .before .advance .ensures, refl)
+
+pub add-offset-spec : {M : Type 1} → statement M
+add-offset-spec =
+    tie.close
+    (tie.spec
+    slice-reshare-prefix-overflows
+    slice-aggregate-overflows
+    overflows-requires
+    same-length
+    returns
+    advance-requires
+    with-room-requires
+    same-length-2
+    same-length-3
+    returns-2)

@@ -1,0 +1,88 @@
+// What a record makes of a state: of where its entries stand, of its epoch and of its kraft version.
+use crate::epochs::bump;
+use apply_offsets::advance;
+use apply_offsets::overflows;
+use apply_work::Room;
+use apply_work::State;
+use apply_work::Tried;
+use keys::number_at;
+ghost use mathlib.Core.Path.{_≡_};
+ghost use Prim.Native.Nat.{_+_, _≤_};
+ghost use lib.ListN.{length};
+ghost use Rattle.model.specs.Number.{number};
+ghost use Rattle.model.specs.Run.{value};
+ghost use Rattle.model.specs.Move.{bumped};
+ghost use Rattle.model.specs.declared.Kind.the-variants.{PartitionOffsetAdvance};
+ghost use Rattle.keys.specs.Keys.{runIn};
+ghost use Rattle.entries.specs.Entries.{IsRecord, recordIn};
+ghost use Rattle.apply_drafts.specs.Drafts.{draftRoom};
+ghost use Rattle.apply_work.specs.Work.{Good, mostRecord};
+ghost use Rattle.apply_work.specs.declared.Tried.the-variants.{Moved};
+ghost use Rattle.apply_plan.specs.Plans.{Added};
+
+// The refusal of an advance whose sum leaves i64.
+const OVERFLOW: u8 = 17;
+
+// The tag of the number that a kraft version or a features epoch sets.
+const SET_TO: usize = 1;
+
+// Entries that were moved, and the fixed parts as they were.
+pub fn with_room(state: State, room: Room) -> Tried
+    ensures { λ r. ⌜ r ≡ Moved (record { room = room; epoch = state .epoch; kraft = state .kraft }) ⌝ }
+{
+    Tried::Moved(State {
+        room,
+        epoch: state.epoch,
+        kraft: state.kraft,
+    })
+}
+
+// The same, and the epoch after a feature level.
+pub fn with_level(state: State, room: Room) -> Tried
+    ensures { λ r. ⌜ r ≡ Moved (record { room = room; epoch = bumped (state .epoch); kraft = state .kraft }) ⌝ }
+{
+    Tried::Moved(State {
+        room,
+        epoch: bump(state.epoch),
+        kraft: state.kraft,
+    })
+}
+
+// The epoch that a record sets.
+pub fn with_epoch(state: State, rec: &[u8]) -> Tried
+    requires { ⌜ (3 ≤ length (now rec)) × (length (value 1 (runIn (now rec))) ≡ 8) ⌝ }
+    ensures { λ r. ⌜ r ≡ Moved (record { room = state .room; epoch = number (value 1 (runIn (now (rec .entry)))); kraft = state .kraft }) ⌝ }
+{
+    let room = state.room;
+    Tried::Moved(State {
+        room,
+        epoch: number_at(rec, SET_TO, 8),
+        kraft: state.kraft,
+    })
+}
+
+// The kraft version that a record sets.
+pub fn with_kraft(state: State, rec: &[u8]) -> Tried
+    requires { ⌜ (3 ≤ length (now rec)) × (length (value 1 (runIn (now rec))) ≡ 2) ⌝ }
+    ensures { λ r. ⌜ r ≡ Moved (record { room = state .room; epoch = state .epoch; kraft = number (value 1 (runIn (now (rec .entry)))) }) ⌝ }
+{
+    let room = state.room;
+    Tried::Moved(State {
+        room,
+        epoch: state.epoch,
+        kraft: number_at(rec, SET_TO, 2),
+    })
+}
+
+// Adds an advance to the stored offset, where the sum stays in i64.
+pub fn add_offset(w: &mut [u8], b: &mut [u8], state: State, rec: &[u8]) -> Tried
+    requires { ⌜ Good (now w) (state .room) × IsRecord (now rec) × (recordIn (now rec) .kind ≡ PartitionOffsetAdvance) × (state .room .used + mostRecord ≤ length (now w)) × (draftRoom ≤ length (now b)) ⌝ }
+    ensures { λ r. ⌜ Added (recordIn (now (rec .entry)) .run) (now (w .entry)) state (now (w .exit)) r ⌝ }
+{
+    let room = state.room;
+    let mid = room.mid;
+    if overflows(&w[..mid], rec) {
+        return Tried::Refused(OVERFLOW);
+    }
+    with_room(state, advance(w, b, room, rec))
+}

@@ -1,0 +1,34 @@
+-- `downgrade_brokers::projected_size` meets its contract.
+use borrow.Author.Needs.{needs}
+use Rattle.downgrade_brokers.proofs.Projected.{may-know, own-size, other-size}
+use Rattle.downgrade_brokers.proofs.projected_size.Statement.{statement}
+use Rattle.downgrade_brokers.proofs.projected_size.Tie as tie
+
+empty-tag-requires : tie.Need-empty-tag-requires
+empty-tag-requires c κs = search needs
+
+gone-tag-requires : tie.Need-gone-tag-requires
+gone-tag-requires c κs = search needs
+
+known-length-requires : tie.Need-known-length-requires
+known-length-requires c κs = may-know _ (c .before .before .before .pre .0) (c .before .before .before .pre .1)
+
+add-size : tie.Need-add-size
+add-size c = search needs
+
+returns : tie.Need-returns
+returns c = other-size _ (c .before .before .before .before .before .pre .0) (c .before .before .before .before .before .pre .1) (c .before .before .before .before .before .args .level) (c .before .before .before .empty-tag .ensures) (c .before .before .gone-tag .ensures) (c .before .known-length .ensures .0) (c .if1 .taken)
+
+returns-2 : tie.Need-returns-2
+returns-2 c = own-size _ (c .before .before .before .before .before .pre .0) (c .before .before .before .before .before .pre .1) (c .before .before .before .before .before .args .level) (c .before .before .before .empty-tag .ensures) (c .before .before .gone-tag .ensures) (c .before .known-length .ensures .0) (c .if1 .left) (c .before .known-length .ensures .1)
+
+pub projected-size-spec : {M : Type 1} → statement M
+projected-size-spec =
+    tie.close
+    (tie.spec
+    empty-tag-requires
+    gone-tag-requires
+    known-length-requires
+    add-size
+    returns
+    returns-2)

@@ -1,0 +1,4 @@
+pub mod Found
+pub mod Probe
+pub mod Shown
+pub mod Reals

@@ -1,0 +1,17 @@
+// The real entries of an image.
+use header::HEAD_SIZE;
+use header::used_in;
+use image_entries::tail_start;
+ghost use mathlib.Core.Path.{_≡_};
+ghost use mathlib.Core.Bool.{true};
+ghost use Rattle.model.specs.Image.{isImage};
+ghost use Rattle.find.specs.Reals.{Reals};
+
+// Where they end; they begin after the header.
+pub fn reals_end(image: &[u8]) -> usize
+    requires { ⌜ isImage (now image) ≡ true ⌝ }
+    ensures { λ r. ⌜ Reals (now (image .entry)) r ⌝ }
+{
+    let used = used_in(image);
+    HEAD_SIZE + tail_start(&image[64..used])
+}

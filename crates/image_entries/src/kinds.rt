@@ -1,0 +1,106 @@
+// What is asked of an entry, by its kind.
+use crate::types::types_in_order;
+use crate::values::has;
+use crate::values::is_empty;
+use crate::values::number_of;
+ghost use mathlib.Core.Path.{_≡_};
+ghost use mathlib.Core.Bool.{_&&_, not};
+ghost use lib.Dec.{ltb};
+ghost use Rattle.model.specs.Number.{isNegative};
+ghost use Rattle.model.specs.Contents.{isBare, isGroup};
+ghost use Rattle.model.specs.Image.{flagReads};
+ghost use Rattle.entries.specs.Entries.{IsRecord, recordIn};
+ghost use Rattle.image_entries.specs.Stored.{storableRecord, isStored};
+
+// Whether an entry is a broker config or a quota, and has no value.
+pub fn is_bare(e: &[u8]) -> bool
+    requires { ⌜ IsRecord (now e) ⌝ }
+    ensures { λ r. ⌜ r ≡ isBare (recordIn (now (e .entry))) ⌝ }
+{
+    match e[0] {
+        6 | 7 => !has(e, 3),
+        _ => false,
+    }
+}
+
+// Whether an entry is an empty group: no value, an empty name, and a quota's types in order.
+pub fn is_group(e: &[u8]) -> bool
+    requires { ⌜ IsRecord (now e) ⌝ }
+    ensures { λ r. ⌜ r ≡ isGroup (recordIn (now (e .entry))) ⌝ }
+{
+    if !is_bare(e) {
+        return false;
+    }
+    if !is_empty(e, 2) {
+        return false;
+    }
+    if e[0] == 6 {
+        return true;
+    }
+    types_in_order(e)
+}
+
+// Whether a topic's fifth field is a flag: four zeros, then 0 or 1.
+fn flag_reads(e: &[u8]) -> bool
+    requires { ⌜ IsRecord (now e) ⌝ }
+    ensures { λ r. ⌜ r ≡ flagReads (recordIn (now (e .entry))) ⌝ }
+{
+    if e[0] != 1 {
+        return true;
+    }
+    number_of(e, 5, 5) <= 1
+}
+
+// Whether a signed number is above 0.
+fn is_positive(n: u64) -> bool
+    ensures { λ r. ⌜ r ≡ (ltb 0 n && not (isNegative 8 n)) ⌝ }
+{
+    if n == 0 {
+        return false;
+    }
+    n < 0x8000_0000_0000_0000
+}
+
+// Whether Apply stores such a record: no level 0, Recovered, thawed freeze, two empty ELR lists or empty topic, metrics or group configs;
+// quota types in order; a next producer id above 0.
+pub fn is_storable(e: &[u8]) -> bool
+    requires { ⌜ IsRecord (now e) ⌝ }
+    ensures { λ r. ⌜ r ≡ storableRecord (recordIn (now (e .entry))) ⌝ }
+{
+    match e[0] {
+        1 => true,
+        2 => true,
+        3 => true,
+        4 => false,
+        5 => has(e, 2),
+        6 => has(e, 3),
+        7 => has(e, 3) && types_in_order(e),
+        8 => is_positive(number_of(e, 3, 8)),
+        9 => false,
+        10 => false,
+        11 => number_of(e, 2, 2) != 0,
+        12 => has(e, 2),
+        13 => false,
+        14 => false,
+        15 => true,
+        16 => has(e, 2),
+        17 => true,
+        18 => number_of(e, 3, 1) == 1,
+        19 => true,
+        20 => false,
+        21 => !is_empty(e, 3) || !is_empty(e, 4),
+        22 => number_of(e, 3, 1) != 0,
+        23 => false,
+        24 => false,
+        25 => false,
+        0 | 26..=255 => false,
+    }
+}
+
+// Whether an entry may stand among the real ones: its flag reads, and Apply stores such a record.
+pub fn is_stored(e: &[u8]) -> bool
+    requires { ⌜ IsRecord (now e) ⌝ }
+    ensures { λ r. ⌜ r ≡ isStored (recordIn (now (e .entry))) ⌝ }
+{
+    flag_reads(e) && is_storable(e)
+}

@@ -1,4 +1,0 @@
-pub mod Arms
-pub mod ByKind
-pub mod Advance
-pub mod OnStates

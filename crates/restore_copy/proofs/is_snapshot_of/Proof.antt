@@ -1,0 +1,75 @@
+-- `restore_copy::is_snapshot_of` meets its contract.
+use mathlib.Core.Path.{sym, ap, _∙_}
+use native.Mathlib.Omega.{arith}
+use borrow.Author.Needs.{needs}
+use lib.Seq.{length-take-le}
+use Rattle.records.specs.Answers.{replied}
+use Rattle.keys.proofs.Keys.{known-bytes}
+use Rattle.restore_copy.proofs.Rebuilds.{image-is, rebuilt}
+use Rattle.restore_copy.proofs.is_snapshot_of.Statement.{statement}
+use Rattle.restore_copy.proofs.is_snapshot_of.Tie as tie
+
+snapshot-requires : tie.Need-snapshot-requires
+snapshot-requires c κs = search needs
+
+enum-known-number : tie.Need-enum-known-number
+enum-known-number c = search needs
+
+enum-known-n : tie.Need-enum-known-n
+enum-known-n c = search needs
+
+same-length : tie.Need-same-length
+same-length c = search needs
+
+returns : tie.Need-returns
+returns c = search needs
+
+slice-reshare-prefix-same : tie.Need-slice-reshare-prefix-same
+slice-reshare-prefix-same c = search needs
+
+slice-aggregate-same : tie.Need-slice-aggregate-same
+slice-aggregate-same c = sym (length-take-le _ _ (c .before .if1 .left))
+
+same-requires : tie.Need-same-requires
+same-requires c κs = search needs
+
+same-length-2 : tie.Need-same-length-2
+same-length-2 c = search needs
+
+returns-2 : tie.Need-returns-2
+returns-2 c = search needs
+
+is-steady-requires : tie.Need-is-steady-requires
+is-steady-requires c κs = image-is (c .before .before .before .before .before .before .before .before .before .before .before .before .before .before .args .image .now) (c .before .before .before .before .before .before .before .before .before .before .before .before .before .before .args .w .now) (sym (ap replied (c .before .before .before .before .before .n .given .1)) ∙ c .before .before .before .before .before .before .before .before .before .snapshot .ensures .0)
+
+same-length-3 : tie.Need-same-length-3
+same-length-3 c = search needs
+
+returns-3 : tie.Need-returns-3
+returns-3 c = search needs
+
+same-length-4 : tie.Need-same-length-4
+same-length-4 c = search needs
+
+returns-4 : tie.Need-returns-4
+returns-4 c = rebuilt (c .before .before .before .before .before .before .before .before .before .before .before .before .before .before .before .args .image .now) (c .before .before .before .before .before .before .before .before .before .before .before .before .before .before .before .args .w .now) (sym (ap replied (c .before .before .before .before .before .before .n .given .1)) ∙ c .before .before .before .before .before .before .before .before .before .before .snapshot .ensures .0) _ (c .before .before .before .before .before .before .before .before .before .before .before .before .before .before .before .args .input .now) (known-bytes (c .before .before .before .before .before .before .before .before .before .before .before .before .before .before .before .args .image .now) (λ i. omega (arith, c .before .before .before .before .before .before .before .before .before .before .before .before .before .before .shared-slice-known .given i))) (c .before .before .before .before .before .before .before .before .before .before .snapshot .ensures .1) (rw (c .before .before .same .ensures) at (c .before .if2 .left)) (c .is-steady .result) (c .is-steady .ensures)
+
+pub is-snapshot-of-spec : {M : Type 1} → statement M
+is-snapshot-of-spec =
+    tie.close
+    (tie.spec
+    snapshot-requires
+    enum-known-number
+    enum-known-n
+    same-length
+    returns
+    slice-reshare-prefix-same
+    slice-aggregate-same
+    same-requires
+    same-length-2
+    returns-2
+    is-steady-requires
+    same-length-3
+    returns-3
+    same-length-4
+    returns-4)

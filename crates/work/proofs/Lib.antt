@@ -1,5 +1,0 @@
-pub mod Moves
-pub mod Made
-pub mod Proper
-pub mod Entries
-pub mod Loads
