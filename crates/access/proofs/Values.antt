@@ -13,7 +13,7 @@ use Rattle.fields.specs.Fields.{held, Within}
 use Rattle.fields.specs.declared.Found.{Found}
 use Rattle.fields.specs.declared.Found.the-variants.{Part, Missing}
 use Rattle.fields.proofs.Took.{within-part}
-use Rattle.access.specs.Access.{recordField, numberOf, fieldNumber, numberIn}
+use Rattle.access.specs.Access.{recordField, widthNumber, fieldNumber, numberIn}
 use Rattle.access.proofs.Body.{field-cut}
 
 -- 1. By the field
@@ -29,7 +29,7 @@ module _ (s : Bytes) (tag width : ℕ) where
     number-missing h = number-none (sym e ∙ rw h)
 
     module _ {start len : ℕ} (h : r ≡ Part start len) (w : Within (length s) r) where
-      number-found : fieldNumber s tag width ≡ numberOf width (slice start (start + len) s)
+      number-found : fieldNumber s tag width ≡ widthNumber width (slice start (start + len) s)
       unfolding fieldNumber held
       number-found = rw (← e, h)
 

@@ -37,11 +37,11 @@ unfoldable pub recordField : Bytes → ℕ → Option Bytes
 recordField s tag = field tag (runOf (bodyIn s))
 
 -- the number of a value of a width
-abbrev pub numberOf : ℕ → Bytes → Option ℕ
-numberOf width v = cond (eqb (length v) width) (some (number v)) none
+abbrev pub widthNumber : ℕ → Bytes → Option ℕ
+widthNumber width v = cond (eqb (length v) width) (some (number v)) none
 
 unfoldable pub fieldNumber : Bytes → ℕ → ℕ → Option ℕ
-fieldNumber s tag width = given (recordField s tag) none (numberOf width)
+fieldNumber s tag width = given (recordField s tag) none (widthNumber width)
 
 -- the same of a record of a kind
 unfoldable pub numberIn : Bytes → ℕ → ℕ → ℕ → Option ℕ
@@ -98,10 +98,10 @@ epochIn s = given (numberIn s (kindNumber Partition) 6 4) noEpoch (λ n. epoch (
 unfoldable pub quotaIn : Bytes → QuotaValue
 quotaIn s = given (numberIn s (kindNumber ClientQuota) 3 8) noQuota (λ n. quotaValue (quotaOf n))
 
--- what an answer of `number_of` says
-unfoldable pub numbered : Number → Option ℕ
-numbered (Is n) = some n
-numbered Missing = none
+-- what an answer of `field_number` says
+unfoldable pub foundNumber : Number → Option ℕ
+foundNumber (Is n) = some n
+foundNumber Missing = none
 
 unfoldable pub Below : ℕ → Number → Type 0
 Below bound (Is n) = n < bound

@@ -13,7 +13,7 @@ ghost use Prim.Native.Nat.{_≤_};
 ghost use Rattle.model.specs.Number.{span};
 ghost use Rattle.model.specs.Run.{runOf};
 ghost use Rattle.fields.specs.Fields.{placeOf};
-ghost use Rattle.access.specs.Access.{bodyIn, fieldNumber, numberIn, signed as signedOf, kindTag, nodeIn, epochIn, quotaIn, numbered, Below};
+ghost use Rattle.access.specs.Access.{bodyIn, fieldNumber, numberIn, signed as signedOf, kindTag, nodeIn, epochIn, quotaIn, foundNumber, Below};
 
 // Where a record's fields begin: after its kind and its body's length.
 const BODY: usize = 3;
@@ -40,9 +40,9 @@ enum Number {
 }
 
 // The number of a field that has `width` bytes.
-fn number_of(s: &[u8], tag: u8, width: usize) -> Number
+fn field_number(s: &[u8], tag: u8, width: usize) -> Number
     requires { ⌜ width ≤ 8 ⌝ }
-    ensures { λ r. ⌜ (numbered r ≡ fieldNumber (now (s .entry)) tag width) × Below (span width) r ⌝ }
+    ensures { λ r. ⌜ (foundNumber r ≡ fieldNumber (now (s .entry)) tag width) × Below (span width) r ⌝ }
 {
     match field_of(s, tag) {
         Found::Part { start, len } => {
@@ -58,7 +58,7 @@ fn number_of(s: &[u8], tag: u8, width: usize) -> Number
 // The same of a record of a kind, missing of any other.
 fn number_in(s: &[u8], kind: u8, tag: u8, width: usize) -> Number
     requires { ⌜ width ≤ 8 ⌝ }
-    ensures { λ r. ⌜ (numbered r ≡ numberIn (now (s .entry)) kind tag width) × Below (span width) r ⌝ }
+    ensures { λ r. ⌜ (foundNumber r ≡ numberIn (now (s .entry)) kind tag width) × Below (span width) r ⌝ }
 {
     if s.len() == 0 {
         return Number::Missing;
@@ -66,7 +66,7 @@ fn number_in(s: &[u8], kind: u8, tag: u8, width: usize) -> Number
     if s[0] != kind {
         return Number::Missing;
     }
-    number_of(s, tag, width)
+    field_number(s, tag, width)
 }
 
 // The signed number of the same four bytes.
@@ -135,7 +135,7 @@ pub fn node_id(s: &[u8]) -> Node
     if tag == 0 {
         return Node::Missing;
     }
-    match number_of(s, tag, 8) {
+    match field_number(s, tag, 8) {
         Number::Is(n) => Node::Is(NodeId(n)),
         Number::Missing => Node::Missing,
     }

@@ -2,22 +2,22 @@
 use apply_step::try_in;
 use apply_work::Tried;
 use apply_work::lay;
-use header::NO_IMAGE;
 use image::is_image;
-use records::Answer;
+use model::answers::Answer;
+use model::refusals::NO_IMAGE;
 use records::read;
 ghost use mathlib.Core.Path.{_≡_};
 ghost use mathlib.Core.Bool.{true};
 ghost use lib.ListN.{length};
 ghost use Rattle.model.specs.Image.{isImage, contentsOf};
 ghost use Rattle.model.specs.Apply.{apply as applied, laid, applyOf};
-ghost use Rattle.header.specs.Header.{numbered};
-ghost use Rattle.judge.specs.Judge.{IsLogged, loggedIn};
+ghost use Rattle.model.specs.Answers.{numberReply};
+ghost use Rattle.find.specs.Logged.{IsLogged, loggedIn};
 
 // Applies a record that Read accepts to an image.
 fn apply_record(image: &mut [u8], rec: &[u8]) -> u8
     requires { ⌜ (isImage (now image) ≡ true) × IsLogged (now rec) ⌝ }
-    ensures { λ r. ⌜ numbered r ≡ laid (now (image .entry)) (applied (length (now (image .entry))) (loggedIn (now (rec .entry))) (contentsOf (now (image .entry)))) .reply ⌝ }
+    ensures { λ r. ⌜ numberReply r ≡ laid (now (image .entry)) (applied (length (now (image .entry))) (loggedIn (now (rec .entry))) (contentsOf (now (image .entry)))) .reply ⌝ }
     ensures { λ _. ⌜ now (image .exit) ≡ laid (now (image .entry)) (applied (length (now (image .entry))) (loggedIn (now (rec .entry))) (contentsOf (now (image .entry)))) .buffer ⌝ }
 {
     let mut w = [0; 167936];
@@ -26,7 +26,7 @@ fn apply_record(image: &mut [u8], rec: &[u8]) -> u8
     match try_in(&mut w, &mut a, &mut b, image, rec) {
         Tried::Refused(number) => number,
         Tried::Moved(s) => {
-            lay(image, &w, s.room, s.epoch, s.kraft);
+            lay(image, &w, s.bounds, s.epoch, s.kraft);
             0
         }
     }
@@ -34,7 +34,7 @@ fn apply_record(image: &mut [u8], rec: &[u8]) -> u8
 
 // Applies the record at the start of `input` to an image. 0, or the number of a refusal, which changes nothing. Later bytes are not looked at.
 pub fn apply(image: &mut [u8], input: &[u8]) -> u8
-    ensures { λ r. ⌜ numbered r ≡ applyOf (now (image .entry)) (now (input .entry)) .reply ⌝ }
+    ensures { λ r. ⌜ numberReply r ≡ applyOf (now (image .entry)) (now (input .entry)) .reply ⌝ }
     ensures { λ _. ⌜ now (image .exit) ≡ applyOf (now (image .entry)) (now (input .entry)) .buffer ⌝ }
 {
     if !is_image(image) {

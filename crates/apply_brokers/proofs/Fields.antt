@@ -22,7 +22,7 @@ use Rattle.entries.specs.Entries.{recordIn}
 use Rattle.entries.proofs.Changes.{record-in}
 use Rattle.image_entries.proofs.Records.{run-in}
 use Rattle.image_entries.proofs.Fields.{is-empty}
-use Rattle.judge.proofs.Fields.{PartOf, lent-value}
+use Rattle.keys.proofs.Fields.{PartOf, lent-value}
 use Rattle.apply_brokers.specs.Change.{IsChange, BrokerIn, Suits, fencedBy, shutBy, withDirs, withCordoned}
 use Rattle.apply_brokers.proofs.Drafts.{run-is}
 

@@ -20,11 +20,11 @@ use Rattle.entries.specs.Entries.{Entries, Placed, recordIn}
 use Rattle.entries.proofs.Changes.{record-in}
 use Rattle.image_entries.proofs.Records.{headed, run-in, kind-is}
 use Rattle.find.specs.Found.{queryKey}
-use Rattle.judge.specs.Judge.{entriesIn}
-use Rattle.judge.proofs.Held.{held-run}
-use Rattle.judge.proofs.Epochs.{same-broker, no-broker, broker-epoch, broker-held}
+use Rattle.entries.specs.Held.{entriesIn}
+use Rattle.find.proofs.Held.{held-run}
+use Rattle.find.proofs.Epochs.{same-broker, no-broker, broker-epoch, broker-held}
 use Rattle.apply_work.specs.Work.{Good, Made}
-use Rattle.apply_work.specs.declared.Room.{Room}
+use Rattle.apply_work.specs.declared.Bounds.{Bounds}
 use Rattle.apply_work.proofs.Made.{record-size, made-none}
 use Rattle.apply_moves.specs.Moves.{IsPlain}
 use Rattle.apply_drafts.specs.Drafts.{draftRoom}
@@ -65,13 +65,13 @@ module _ (s r node : Bytes) (i : IsChange r) {at end : ℕ} (p : Placed s (query
         (h .is .bytes ∙ ap recordBytes value-is, subst (λ q. fault stored (q .kind) (q .run) ≡ 0) value-is (h .is .passes))
 
     pub entry-fits : (b : Bytes) → draftRoom ≤ length b → length (take (end - at) (drop at s)) ≤ length b
-    entry-fits b room = omega (arith, record-size _ (broker-held s r node p areBytes whole longer .is))
+    entry-fits b bounds = omega (arith, record-size _ (broker-held s r node p areBytes whole longer .is))
 
     pub copied : t ≡ true → (b w : Bytes) {n : ℕ} → draftRoom ≤ length b → length w ≡ length b
         → (n ≡ length (take (end - at) (drop at s))) × (take n w ≡ take (end - at) (drop at s))
         → Copied (value 2 (recordIn r .run)) (brokerAt node (entriesIn s)) w n
     unfolding kindNumber
-    copied f b w {n} room same said =
+    copied f b w {n} bounds same said =
         let x = take (end - at) (drop at s) in
         let found : some (runIn x) ≡ brokerAt node (entriesIn s) =
         sym (held-run (broker-held s r node p areBytes whole longer) refl) ∙ same-broker s r node p in
@@ -82,7 +82,7 @@ module _ (s r node : Bytes) (i : IsChange r) {at end : ℕ} (p : Placed s (query
             record {
               bytes = said .1 ∙ entry-is .0;
               passes = entry-is .1;
-              fits = omega (arith, said .0, entry-fits b room);
+              fits = omega (arith, said .0, entry-fits b bounds);
               room = omega arith;
             },
           );
@@ -98,7 +98,7 @@ of-node r node i e l {b} {n} c =
     subst (λ v. Copied (value 2 (recordIn r .run)) (brokerAt v l) b n) (e ∙ ap (value 1) (run-in r (i .is))) c
 
 module _ (f : Run) (l : List Entry) {b : Bytes} {n : ℕ} (c : Copied (value 2 f) (brokerAt (value 1 f) l) b n) where
-  pub none-changed : n ≡ 0 → {w : Bytes} {room : Room} → Good w room → Made (plan BrokerRegistrationChange f l) w room w room
+  pub none-changed : n ≡ 0 → {w : Bytes} {bounds : Bounds} → Good w bounds → Made (plan BrokerRegistrationChange f l) w bounds w bounds
   unfolding plan
   none-changed z good = rw (c .none z) (made-none good)
 
@@ -116,10 +116,10 @@ module _ {b : Bytes} {n : ℕ} {run : Run} (d : BrokerIn b n run) where
   stored-move = ap (λ (r : Rec). setOrDrop (storable (r .kind) (r .run)) r) (record-is d)
 
 pub broker-changed : (f : Run) (l : List Entry) {b : Bytes} {n : ℕ} → Copied (value 2 f) (brokerAt (value 1 f) l) b n → (n ≡ 0 → ⊥)
-    → {u : Bytes} {m : ℕ} → BrokerIn u m (changedBroker f (runIn (take n b))) → {w v : Bytes} {room r : Room}
-    → Made (setOrDrop (storable (recordIn (take m u) .kind) (recordIn (take m u) .run)) (recordIn (take m u)) ∷ []) w room v r
-    → Made (plan BrokerRegistrationChange f l) w room v r
+    → {u : Bytes} {m : ℕ} → BrokerIn u m (changedBroker f (runIn (take n b))) → {w v : Bytes} {bounds r : Bounds}
+    → Made (setOrDrop (storable (recordIn (take m u) .kind) (recordIn (take m u) .run)) (recordIn (take m u)) ∷ []) w bounds v r
+    → Made (plan BrokerRegistrationChange f l) w bounds v r
 unfolding plan
-broker-changed f l c z d {w} {v} {room} {r} made =
+broker-changed f l c z d {w} {v} {bounds} {r} made =
     let old = c .there (omega arith) in
-    rw (old .0) (subst (λ m. Made (m ∷ []) w room v r) (stored-move (step-on (changedBroker f) (old .1) d)) made)
+    rw (old .0) (subst (λ m. Made (m ∷ []) w bounds v r) (stored-move (step-on (changedBroker f) (old .1) d)) made)

@@ -3,11 +3,12 @@ mod steps;
 
 use apply_drafts::copy_in;
 use apply_moves::set;
-use apply_work::Room;
+use apply_work::Bounds;
 use find::find_node;
-use judge::same_value;
 use keys::node_at;
+use keys::same_value;
 use model::NodeId;
+use model::kinds::BROKER_REGISTRATION;
 use steps::change;
 ghost use mathlib.Core.Path.{_≡_};
 ghost use Prim.Native.Nat.{_+_, _≤_};
@@ -17,13 +18,10 @@ ghost use Rattle.model.specs.Run.{value};
 ghost use Rattle.model.specs.Move.{brokerAt, plan};
 ghost use Rattle.model.specs.declared.Kind.the-variants.{BrokerRegistrationChange};
 ghost use Rattle.entries.specs.Entries.{Entries, IsRecord, recordIn};
-ghost use Rattle.judge.specs.Judge.{entriesIn};
+ghost use Rattle.entries.specs.Held.{entriesIn};
 ghost use Rattle.apply_drafts.specs.Drafts.{draftRoom};
 ghost use Rattle.apply_work.specs.Work.{Good, heldIn, mostRecord, Made};
 ghost use Rattle.apply_brokers.specs.Change.{IsChange, Copied};
-
-// The kind of a broker's registration, and the tag of a change's node.
-const BROKER: u8 = 3;
 
 const NODE: usize = 1;
 
@@ -32,7 +30,7 @@ fn copy_broker(b: &mut [u8], s: &[u8], node: NodeId, rec: &[u8]) -> usize
     requires { ⌜ Entries (now s) × IsChange (now rec) × (draftRoom ≤ length (now b)) ⌝ }
     ensures { λ r. ⌜ Copied (value 2 (recordIn (now (rec .entry)) .run)) (brokerAt (bytes 8 (node .0)) (entriesIn (now (s .entry)))) (now (b .exit)) r ⌝ }
 {
-    let p = find_node(s, BROKER, node);
+    let p = find_node(s, BROKER_REGISTRATION, node);
     let at = p.at;
     let end = p.end;
     if end <= at {
@@ -45,15 +43,15 @@ fn copy_broker(b: &mut [u8], s: &[u8], node: NodeId, rec: &[u8]) -> usize
 }
 
 // Changes the broker of a record's node, where it is stored at the record's epoch.
-pub fn change_broker(w: &mut [u8], b: &mut [u8], room: Room, rec: &[u8]) -> Room
-    requires { ⌜ Good (now w) room × IsRecord (now rec) × (recordIn (now rec) .kind ≡ BrokerRegistrationChange) × (room .used + mostRecord ≤ length (now w)) × (draftRoom ≤ length (now b)) ⌝ }
-    ensures { λ r. ⌜ Made (plan BrokerRegistrationChange (recordIn (now (rec .entry)) .run) (heldIn (now (w .entry)) room)) (now (w .entry)) room (now (w .exit)) r ⌝ }
+pub fn change_broker(w: &mut [u8], b: &mut [u8], bounds: Bounds, rec: &[u8]) -> Bounds
+    requires { ⌜ Good (now w) bounds × IsRecord (now rec) × (recordIn (now rec) .kind ≡ BrokerRegistrationChange) × (bounds .used + mostRecord ≤ length (now w)) × (draftRoom ≤ length (now b)) ⌝ }
+    ensures { λ r. ⌜ Made (plan BrokerRegistrationChange (recordIn (now (rec .entry)) .run) (heldIn (now (w .entry)) bounds)) (now (w .entry)) bounds (now (w .exit)) r ⌝ }
 {
-    let mid = room.mid;
+    let mid = bounds.mid;
     let n = copy_broker(b, &w[..mid], node_at(rec, NODE), rec);
     if n == 0 {
-        return room;
+        return bounds;
     }
     let size = change(b, n, rec);
-    set(w, room, &b[..size])
+    set(w, bounds, &b[..size])
 }

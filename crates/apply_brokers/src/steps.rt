@@ -1,7 +1,7 @@
 // A broker's record that is changed a field at a time, at the start of a buffer.
 use apply_drafts::set_field;
 use image_entries::has;
-use image_entries::number_of;
+use image_entries::value_number;
 use keys::value_at;
 ghost use lib.ListN.{take};
 ghost use Rattle.model.specs.Run.{setField};
@@ -23,7 +23,7 @@ fn fence(b: &mut [u8], n: usize, rec: &[u8]) -> usize
     requires { ⌜ BrokerIn (now b) n (runIn (take n (now b))) × IsChange (now rec) ⌝ }
     ensures { λ r. ⌜ BrokerIn (now (b .exit)) r (fencedBy (recordIn (now (rec .entry)) .run) (runIn (take n (now (b .entry))))) ⌝ }
 {
-    let fencing = number_of(rec, 3, 1);
+    let fencing = value_number(rec, 3, 1);
     if fencing == 0 {
         return replace(b, n, 9, b"\x00");
     }
@@ -38,7 +38,7 @@ fn shut(b: &mut [u8], n: usize, rec: &[u8]) -> usize
     requires { ⌜ BrokerIn (now b) n (runIn (take n (now b))) × IsChange (now rec) ⌝ }
     ensures { λ r. ⌜ BrokerIn (now (b .exit)) r (shutBy (recordIn (now (rec .entry)) .run) (runIn (take n (now (b .entry))))) ⌝ }
 {
-    if number_of(rec, 4, 1) == 1 {
+    if value_number(rec, 4, 1) == 1 {
         return replace(b, n, 10, b"\x01");
     }
     n

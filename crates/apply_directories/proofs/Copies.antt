@@ -20,10 +20,10 @@ use Rattle.entries.specs.Entries.{Entries, Placed, IsRecord, recordIn}
 use Rattle.entries.proofs.Changes.{record-in}
 use Rattle.image_entries.proofs.Records.{headed, run-in, kind-is}
 use Rattle.find.specs.Found.{Query, queryKey}
-use Rattle.judge.specs.Judge.{entriesIn}
-use Rattle.judge.proofs.Fields.{PartOf, lent-value}
-use Rattle.judge.proofs.Queries.{partition-query, partition-key, lent-query}
-use Rattle.judge.proofs.Held.{Held, held, none-held}
+use Rattle.entries.specs.Held.{entriesIn}
+use Rattle.keys.proofs.Fields.{PartOf, lent-value}
+use Rattle.find.proofs.Queries.{partition-query, partition-key, lent-query}
+use Rattle.find.proofs.Held.{Held, held, none-held}
 use Rattle.apply_drafts.specs.Drafts.{spells, IsDraft, Drafted, draftRoom}
 use Rattle.apply_drafts.proofs.Drafts.{spells-record, held-draft, set-held, copy-drafted}
 use Rattle.apply_work.proofs.Made.{record-size}

@@ -18,7 +18,7 @@ use Rattle.keys.proofs.Found.{part-length}
 use Rattle.entries.specs.Entries.{IsRecord, recordIn}
 use Rattle.entries.proofs.Changes.{record-in}
 use Rattle.image_entries.proofs.Records.{run-in}
-use Rattle.judge.proofs.Fields.{PartOf, lent-value}
+use Rattle.keys.proofs.Fields.{PartOf, lent-value}
 use Rattle.apply_directories.specs.Assign.{IsAssignment, IsPartition, slotIn, SlotIs, newDirectories, Built}
 
 -- 1. The fields
@@ -106,7 +106,7 @@ module _ (e s : Bytes) (p : IsPartition e) (a : IsAssignment s) where
     module _ (here : slot < count) (from to start end : ℕ) (hp : PartOf e 9 from to) (ha : PartOf s 4 start end) where
       pub may-fill : (b : Bytes) → 1024 ≤ length b
           → (length (take (to - from) (drop from e)) ≤ length b) × (count * 16 ≤ length b) × (slot < count) × (length (take (end - start) (drop start s)) ≡ 16)
-      may-fill b room = (
+      may-fill b bounds = (
         omega (arith, ap length (part-value e (p .is) 9 from to hp), directories-fit e p .0, directories-fit e p .1),
         omega (arith, h .0, replicas-fit e p .1),
         here,
@@ -118,7 +118,7 @@ module _ (e s : Bytes) (p : IsPartition e) (a : IsAssignment s) where
           (n ≡ length (take (to - from) (drop from e)) + (count * 16 - length (take (to - from) (drop from e))))
           → Built (newDirectories (recordIn s .run) (recordIn e .run)) b n
       unfolding newDirectories
-      dirs-built b {n} room said =
+      dirs-built b {n} bounds said =
           let f = recordIn s .run in
           let r = recordIn e .run in
           let old = directories r in

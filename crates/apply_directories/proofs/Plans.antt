@@ -19,7 +19,7 @@ use Rattle.laws.specs.Choice.{over}
 use Rattle.laws.specs.Map.{Asc, get-in}
 use Rattle.entries.specs.Entries.{recordIn}
 use Rattle.apply_work.specs.Work.{realsIn, groupsIn, Good, heldIn, Made}
-use Rattle.apply_work.specs.declared.Room.{Room}
+use Rattle.apply_work.specs.declared.Bounds.{Bounds}
 use Rattle.apply_work.proofs.Entries.{entries-put, part-entry}
 use Rattle.apply_work.proofs.Made.{record-size, made-none, made-one}
 use Rattle.apply_directories.specs.Assign.{IsPartition, slotIn, newDirectories, Copied, Changed}
@@ -43,9 +43,9 @@ moves-by f p = go (slotIn f p)
     go none = refl
     go (some n) = refl
 
-module _ (f : Run) (w : Bytes) (room : Room) {b : Bytes} {n : ℕ}
-    (c : Copied (partitionKey Partition (value 1 f) (value 2 f)) (heldIn w room) b n) where
-  pub none-stored : n ≡ 0 → Good w room → Made (plan PartitionDirAssignment f (heldIn w room)) w room w room
+module _ (f : Run) (w : Bytes) (bounds : Bounds) {b : Bytes} {n : ℕ}
+    (c : Copied (partitionKey Partition (value 1 f) (value 2 f)) (heldIn w bounds) b n) where
+  pub none-stored : n ≡ 0 → Good w bounds → Made (plan PartitionDirAssignment f (heldIn w bounds)) w bounds w bounds
   unfolding plan fields
   none-stored z good = rw (c .none z) (made-none good)
 
@@ -53,41 +53,41 @@ module _ (f : Run) (w : Bytes) (room : Room) {b : Bytes} {n : ℕ}
     abbrev old : Run
     old = recordIn (take n b) .run
 
-    old-there : get key (partitionKey Partition (value 1 f) (value 2 f)) (heldIn w room) ≡ some (part (recordIn (take n b) .run))
+    old-there : get key (partitionKey Partition (value 1 f) (value 2 f)) (heldIn w bounds) ≡ some (part (recordIn (take n b) .run))
     old-there = c .there (omega arith) .0
 
     pub partition-there : IsPartition (take n b)
     partition-there = c .there (omega arith) .1
 
-    plan-is : plan PartitionDirAssignment f (heldIn w room) ≡ given (newDirectories f old) [] (λ v. directoriesM (keyOf Partition old) v ∷ [])
+    plan-is : plan PartitionDirAssignment f (heldIn w bounds) ≡ given (newDirectories f old) [] (λ v. directoriesM (keyOf Partition old) v ∷ [])
     unfolding plan fields
     plan-is = ap (λ o. given (fields o) [] (directoryMoves f)) old-there ∙ moves-by f old
 
     module _ {u : Bytes} {m : ℕ} (d : Changed (newDirectories f old) old u m) where
       -- no such replica
-      pub none-assigned : m ≡ 0 → Good w room → Made (plan PartitionDirAssignment f (heldIn w room)) w room w room
+      pub none-assigned : m ≡ 0 → Good w bounds → Made (plan PartitionDirAssignment f (heldIn w bounds)) w bounds w bounds
       none-assigned q good =
-          subst (λ ms. Made ms w room w room) (sym (plan-is ∙ ap (λ o. given o [] (λ v. directoriesM (keyOf Partition old) v ∷ [])) (d .none q)))
+          subst (λ ms. Made ms w bounds w bounds) (sym (plan-is ∙ ap (λ o. given o [] (λ v. directoriesM (keyOf Partition old) v ∷ [])) (d .none q)))
           (made-none good)
 
       pub new-there : (m ≡ 0 → ⊥) → IsPartition (take m u)
       new-there q = d .there (omega arith) .2
 
-      pub assigned-there : (m ≡ 0 → ⊥) → Asc key (heldIn w room) → {x : Bytes} {r : Room}
-          → Good x r × (realsIn x r ≡ put recordKey (recordIn (take m u)) (realsIn w room)) × (groupsIn x r ≡ groupsIn w room) ×
-          (r .used ≤ room .used + length (take m u)) → Made (plan PartitionDirAssignment f (heldIn w room)) w room x r
+      pub assigned-there : (m ≡ 0 → ⊥) → Asc key (heldIn w bounds) → {x : Bytes} {r : Bounds}
+          → Good x r × (realsIn x r ≡ put recordKey (recordIn (take m u)) (realsIn w bounds)) × (groupsIn x r ≡ groupsIn w bounds) ×
+          (r .used ≤ bounds .used + length (take m u)) → Made (plan PartitionDirAssignment f (heldIn w bounds)) w bounds x r
       unfolding onReal onEmpties key
       assigned-there q asc {x} {r} h =
           let t = d .there (omega arith) in
           let v = t .0 in
           let k : keyOf Partition old ≡ partitionKey Partition (value 1 f) (value 2 f) =
-          get-in key (partitionKey Partition (value 1 f) (value 2 f)) (heldIn w room) (part old) old-there .1 in
-          let here : get key (keyOf Partition old) (heldIn w room) ≡ some (part old) = ap (λ y. get key y (heldIn w room)) k ∙ old-there in
+          get-in key (partitionKey Partition (value 1 f) (value 2 f)) (heldIn w bounds) (part old) old-there .1 in
+          let here : get key (keyOf Partition old) (heldIn w bounds) ≡ some (part old) = ap (λ y. get key y (heldIn w bounds)) k ∙ old-there in
           let entry : entryOf (recordIn (take m u)) ≡ part (setField 9 v old) = part-entry (recordIn (take m u)) (t .2 .kind) ∙ ap part (t .3) in
-          let real : heldIn x r ≡ onReal (directoriesM (keyOf Partition old) v) (heldIn w room) =
+          let real : heldIn x r ≡ onReal (directoriesM (keyOf Partition old) v) (heldIn w bounds) =
           ap (map entryOf) (h .1)
-          ∙ entries-put (recordIn (take m u)) (realsIn w room)
-          ∙ ap (λ y. put key y (heldIn w room)) entry
-          ∙ sym (directories-put old v (heldIn w room) asc here) in
-          subst (λ ms. Made ms w room x r) (sym (plan-is ∙ ap (λ o. given o [] (λ y. directoriesM (keyOf Partition old) y ∷ [])) (t .1)))
+          ∙ entries-put (recordIn (take m u)) (realsIn w bounds)
+          ∙ ap (λ y. put key y (heldIn w bounds)) entry
+          ∙ sym (directories-put old v (heldIn w bounds) asc here) in
+          subst (λ ms. Made ms w bounds x r) (sym (plan-is ∙ ap (λ o. given o [] (λ y. directoriesM (keyOf Partition old) y ∷ [])) (t .1)))
           (made-one (directoriesM (keyOf Partition old) v) (h .0) real (h .2) (omega (arith, h .3, record-size (take m u) (t .2 .is))))

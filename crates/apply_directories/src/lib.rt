@@ -3,11 +3,12 @@ mod directories;
 
 use apply_drafts::copy_in;
 use apply_drafts::set_field;
-use apply_work::Room;
+use apply_work::Bounds;
 use apply_work::put_real;
 use directories::build;
 use find::find;
 use keys::value_at;
+use model::kinds::PARTITION;
 ghost use mathlib.Core.Path.{_≡_};
 ghost use Prim.Native.Nat.{_+_, _≤_};
 ghost use lib.ListN.{length, take};
@@ -18,13 +19,10 @@ ghost use Rattle.model.specs.Move.{plan};
 ghost use Rattle.model.specs.declared.Kind.the-variants.{Partition, PartitionDirAssignment};
 ghost use Rattle.laws.specs.Map.{Asc};
 ghost use Rattle.entries.specs.Entries.{Entries, IsRecord, recordIn};
-ghost use Rattle.judge.specs.Judge.{entriesIn};
+ghost use Rattle.entries.specs.Held.{entriesIn};
 ghost use Rattle.apply_drafts.specs.Drafts.{draftRoom};
 ghost use Rattle.apply_work.specs.Work.{Good, heldIn, mostRecord, Made};
 ghost use Rattle.apply_directories.specs.Assign.{IsAssignment, IsPartition, newDirectories, Copied, Changed};
-
-// The kind of a partition.
-const PARTITION: u8 = 2;
 
 // Copies the partition that an assignment names to the start of a buffer. Its length, 0 where there is none.
 fn copy_partition(b: &mut [u8], s: &[u8], rec: &[u8]) -> usize
@@ -61,18 +59,18 @@ fn change(b: &mut [u8], n: usize, rec: &[u8]) -> usize
 
 // Sets the directory of a replica of a stored partition: the first slot of that replica. Directories that are fewer than the replicas are
 // first filled up with zeros (MIGRATING).
-pub fn assign(w: &mut [u8], b: &mut [u8], room: Room, rec: &[u8]) -> Room
-    requires { ⌜ Good (now w) room × IsRecord (now rec) × (recordIn (now rec) .kind ≡ PartitionDirAssignment) × Asc key (heldIn (now w) room) × (room .used + mostRecord ≤ length (now w)) × (draftRoom ≤ length (now b)) ⌝ }
-    ensures { λ r. ⌜ Made (plan PartitionDirAssignment (recordIn (now (rec .entry)) .run) (heldIn (now (w .entry)) room)) (now (w .entry)) room (now (w .exit)) r ⌝ }
+pub fn assign(w: &mut [u8], b: &mut [u8], bounds: Bounds, rec: &[u8]) -> Bounds
+    requires { ⌜ Good (now w) bounds × IsRecord (now rec) × (recordIn (now rec) .kind ≡ PartitionDirAssignment) × Asc key (heldIn (now w) bounds) × (bounds .used + mostRecord ≤ length (now w)) × (draftRoom ≤ length (now b)) ⌝ }
+    ensures { λ r. ⌜ Made (plan PartitionDirAssignment (recordIn (now (rec .entry)) .run) (heldIn (now (w .entry)) bounds)) (now (w .entry)) bounds (now (w .exit)) r ⌝ }
 {
-    let mid = room.mid;
+    let mid = bounds.mid;
     let n = copy_partition(b, &w[..mid], rec);
     if n == 0 {
-        return room;
+        return bounds;
     }
     let size = change(b, n, rec);
     if size == 0 {
-        return room;
+        return bounds;
     }
-    put_real(w, room, &b[..size])
+    put_real(w, bounds, &b[..size])
 }

@@ -10,22 +10,22 @@ use Rattle.model.specs.Run.{done, bytesOf, setField}
 use Rattle.fields.proofs.Parse.{take-drop}
 use Rattle.keys.specs.Keys.{runIn}
 use Rattle.entries.proofs.Splices.{spliced}
-use Rattle.records.specs.Answers.{written, head}
+use Rattle.records.specs.Answers.{putAt, head}
 use Rattle.apply_drafts.specs.Drafts.{spells, Spot}
 
 -- 1. Bytes that are written at the start
 
-pub written-front : (out s : Bytes) {v : Bytes} → v ≡ written out 0 s → take (length s) v ≡ s
-written-front out s e = ap (take (length s)) e ∙ take-append-seam s (drop (0 + length s) out)
+pub put-at-front : (out s : Bytes) {v : Bytes} → v ≡ putAt out 0 s → take (length s) v ≡ s
+put-at-front out s e = ap (take (length s)) e ∙ take-append-seam s (drop (0 + length s) out)
 
 -- a record with no field
-pub begun : (out : Bytes) (kind : ℕ) {v : Bytes} → v ≡ written out 0 (head kind 0) → take 3 v ≡ spells kind done
+pub begun : (out : Bytes) (kind : ℕ) {v : Bytes} → v ≡ putAt out 0 (head kind 0) → take 3 v ≡ spells kind done
 unfolding bytesOf
-begun out kind e = written-front out (head kind 0) e
+begun out kind e = put-at-front out (head kind 0) e
 
 -- a head that is written over another
 head-over : (w front body : Bytes) (kind size : ℕ) {v : Bytes} → length front ≡ 3 → size ≤ length w → take size w ≡ front ++ body
-    → v ≡ written w 0 (head kind (size - 3)) → take size v ≡ head kind (length body) ++ body
+    → v ≡ putAt w 0 (head kind (size - 3)) → take size v ≡ head kind (length body) ++ body
 head-over w front body kind size three most e f =
     let h = head kind (length body) in
     let long : size ≡ 3 + length body =
@@ -33,8 +33,8 @@ head-over w front body kind size three most e f =
     let left : size - 3 ≡ length body = omega arith in
     let rest : take (length body) (drop 3 w) ≡ body =
     take-drop 3 (length body) w ∙ ap (λ n. drop 3 (take n w)) (sym long) ∙ ap (drop 3) e ∙ drop-at front body 3 three in
-    ap (take size) (f ∙ ap (λ n. written w 0 (head kind n)) left)
-    ∙ ap (λ n. take n (written w 0 h)) long
+    ap (take size) (f ∙ ap (λ n. putAt w 0 (head kind n)) left)
+    ∙ ap (λ n. take n (putAt w 0 h)) long
     ∙ take-append-add h (drop 3 w) (length body)
     ∙ ap (λ x. h ++ x) rest
 
@@ -62,7 +62,7 @@ module _ {b v : Bytes} {n tag start end : ℕ} (g : Gap b v n tag start end) whe
   size = start + 3 + length v + (n - end)
 
   module _ {w1 w2 : Bytes} (shifted : w1 ≡ paste b (start + 3 + length v) (drop end b) (n - end))
-      (filled : w2 ≡ written w1 start (head tag (length v) ++ v)) where
+      (filled : w2 ≡ putAt w1 start (head tag (length v) ++ v)) where
     -- the field is laid in the gap that was made for it
     laid : take size w2 ≡ take 3 (take n b) ++ fields
     laid =
@@ -75,7 +75,7 @@ module _ {b v : Bytes} {n tag start end : ℕ} (g : Gap b v n tag start end) whe
         ∙ ap (λ x. x ++ f ++ slice end n b) (sym (take-take start n b (omega (arith, g .within, g .spot .order))))
         ∙ g .spot .sets v
 
-    pub field-set : (kind : ℕ) {w3 : Bytes} → length w2 ≡ length b → w3 ≡ written w2 0 (head kind (size - 3))
+    pub field-set : (kind : ℕ) {w3 : Bytes} → length w2 ≡ length b → w3 ≡ putAt w2 0 (head kind (size - 3))
         → take size w3 ≡ spells kind (setField tag v (runIn (take n b)))
     field-set kind same e =
         let three : length (take 3 (take n b)) ≡ 3 = length-take-le 3 (take n b) (omega (arith, g .spot .low, g .spot .order, g .spot .most)) in

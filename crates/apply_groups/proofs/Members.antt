@@ -25,7 +25,7 @@ use Rattle.entries.specs.Entries.{IsRecord, recordIn}
 use Rattle.entries.proofs.Changes.{record-in, key-in}
 use Rattle.image_groups.specs.Groups.{apartIn}
 use Rattle.apply_work.specs.Work.{realsIn, groupsIn, Good, heldIn, Made}
-use Rattle.apply_work.specs.declared.Room.{Room}
+use Rattle.apply_work.specs.declared.Bounds.{Bounds}
 use Rattle.apply_work.proofs.Made.{record-size, made-one}
 use Rattle.apply_work.proofs.Entries.{entries-put, entries-remove, entry-plain}
 use Rattle.apply_groups.proofs.Records.{group-in, group-key-in}
@@ -53,31 +53,31 @@ module _ (s g : Bytes) (are : AreBytes s) (i : IsRecord s) (grouped : Grouped (r
   pub group-told : isConfig (recordIn s) || typesInOrder (values 1 (recordIn s .run)) ≡ true → isGroup (recordIn g) ≡ true
   group-told h = rw (group-in s g are i grouped e) (group-is-group (recordIn s) grouped h)
 
-  module _ (w : Bytes) {v : Bytes} (room : Room) {r : Room} where
+  module _ (w : Bytes) {v : Bytes} (bounds : Bounds) {r : Bounds} where
     -- the group is taken out of the empty ones, and then the member is put
-    pub joined : {u : Bytes} {q : Room}
-        → Good v r × (realsIn v r ≡ realsIn w room) × (groupsIn v r ≡ remove recordKey (keyIn g) (groupsIn w room)) × (r .used ≤ room .used)
+    pub joined : {u : Bytes} {q : Bounds}
+        → Good v r × (realsIn v r ≡ realsIn w bounds) × (groupsIn v r ≡ remove recordKey (keyIn g) (groupsIn w bounds)) × (r .used ≤ bounds .used)
         → Good u q × (realsIn u q ≡ put recordKey (recordIn s) (realsIn v r)) × (groupsIn u q ≡ groupsIn v r) × (q .used ≤ r .used + length s)
-        → Made (joinM (recordIn s) ∷ []) w room u q
+        → Made (joinM (recordIn s) ∷ []) w bounds u q
     unfolding onReal onEmpties
     joined d p =
         made-one (joinM (recordIn s)) (p .0)
         (ap (map entryOf) (p .1 ∙ ap (put recordKey (recordIn s)) (d .1))
-        ∙ entries-put (recordIn s) (realsIn w room)
-        ∙ ap (λ x. put key x (heldIn w room)) (member-plain (recordIn s) grouped))
-        (p .2 ∙ d .2 ∙ ap (λ k. remove recordKey k (groupsIn w room)) (group-key-in s g are i grouped e))
+        ∙ entries-put (recordIn s) (realsIn w bounds)
+        ∙ ap (λ x. put key x (heldIn w bounds)) (member-plain (recordIn s) grouped))
+        (p .2 ∙ d .2 ∙ ap (λ k. remove recordKey k (groupsIn w bounds)) (group-key-in s g are i grouped e))
         (omega (arith, d .3, p .3, record-size s i))
 
     -- the member is taken out
-    module _ (d : Good v r × (realsIn v r ≡ remove recordKey (keyIn s) (realsIn w room)) × (groupsIn v r ≡ groupsIn w room) × (r .used ≤ room .used)) where
-      left : heldIn v r ≡ remove key (recordKey (recordIn s)) (heldIn w room)
+    module _ (d : Good v r × (realsIn v r ≡ remove recordKey (keyIn s) (realsIn w bounds)) × (groupsIn v r ≡ groupsIn w bounds) × (r .used ≤ bounds .used)) where
+      left : heldIn v r ≡ remove key (recordKey (recordIn s)) (heldIn w bounds)
       left =
-          ap (map entryOf) (d .1 ∙ ap (λ k. remove recordKey k (realsIn w room)) member-key-in)
-          ∙ entries-remove (recordKey (recordIn s)) (realsIn w room)
+          ap (map entryOf) (d .1 ∙ ap (λ k. remove recordKey k (realsIn w bounds)) member-key-in)
+          ∙ entries-remove (recordKey (recordIn s)) (realsIn w bounds)
 
       -- whether others of its group are there
       abbrev more : Bool
-      more = any key (inGroupOf (recordIn s)) (remove key (recordKey (recordIn s)) (heldIn w room))
+      more = any key (inGroupOf (recordIn s)) (remove key (recordKey (recordIn s)) (heldIn w bounds))
 
       module _ {b : Bool} (told : b ≡ apartIn (realsIn v r) (recordIn g)) where
         others : b ≡ not more
@@ -89,18 +89,18 @@ module _ (s g : Bytes) (are : AreBytes s) (i : IsRecord s) (grouped : Grouped (r
             ∙ ap not (sym (any-map recordKey key entryOf entry-key (inGroupOf (recordIn s)) (realsIn v r)))
             ∙ ap (λ l. not (any key (inGroupOf (recordIn s)) l)) left
 
-        pub left-others : b ≡ false → Made (leaveM (recordIn s) ∷ []) w room v r
+        pub left-others : b ≡ false → Made (leaveM (recordIn s) ∷ []) w bounds v r
         unfolding onReal onEmpties
         left-others some =
             let there = not-false more (sym others ∙ some) in
             made-one (leaveM (recordIn s)) (d .0) left (rw there (d .2)) (omega (arith, d .3))
 
-        pub left-last : b ≡ true → {u : Bytes} {q : Room}
+        pub left-last : b ≡ true → {u : Bytes} {q : Bounds}
             → Good u q × (realsIn u q ≡ realsIn v r) × (groupsIn u q ≡ put recordKey (recordIn g) (groupsIn v r)) × (q .used ≤ r .used + length g)
-            → length g ≤ length s → Made (leaveM (recordIn s) ∷ []) w room u q
+            → length g ≤ length s → Made (leaveM (recordIn s) ∷ []) w bounds u q
         unfolding onReal onEmpties
         left-last last p short =
             let none = not-true more (sym others ∙ last) in
             made-one (leaveM (recordIn s)) (p .0) (ap (map entryOf) (p .1) ∙ left)
-            (rw none (p .2 ∙ ap (put recordKey (recordIn g)) (d .2) ∙ ap (λ x. put recordKey x (groupsIn w room)) (group-in s g are i grouped e)))
+            (rw none (p .2 ∙ ap (put recordKey (recordIn g)) (d .2) ∙ ap (λ x. put recordKey x (groupsIn w bounds)) (group-in s g are i grouped e)))
             (omega (arith, d .3, p .3, short, record-size s i))

@@ -1,5 +1,5 @@
 // The configs of a node and the quotas of an entity list are groups: a member joins its group on a work array or leaves it.
-use apply_work::Room;
+use apply_work::Bounds;
 use apply_work::drop_group;
 use apply_work::drop_real;
 use apply_work::put_group;
@@ -63,22 +63,22 @@ fn is_apart(s: &[u8], g: &[u8]) -> bool
 }
 
 // Puts a member among the real entries: its group is not empty then.
-pub fn join(w: &mut [u8], b: &mut [u8], room: Room, rec: &[u8]) -> Room
-    requires { ⌜ Good (now w) room × IsRecord (now rec) × Grouped (recordIn (now rec) .kind) × (room .used + mostRecord ≤ length (now w)) × (length (now rec) + 3 ≤ length (now b)) ⌝ }
-    ensures { λ r. ⌜ Made (joinM (recordIn (now (rec .entry))) ∷ []) (now (w .entry)) room (now (w .exit)) r ⌝ }
+pub fn join(w: &mut [u8], b: &mut [u8], bounds: Bounds, rec: &[u8]) -> Bounds
+    requires { ⌜ Good (now w) bounds × IsRecord (now rec) × Grouped (recordIn (now rec) .kind) × (bounds .used + mostRecord ≤ length (now w)) × (length (now rec) + 3 ≤ length (now b)) ⌝ }
+    ensures { λ r. ⌜ Made (joinM (recordIn (now (rec .entry))) ∷ []) (now (w .entry)) bounds (now (w .exit)) r ⌝ }
 {
     let n = group_record(b, rec);
-    let left = drop_group(w, room, &b[..n]);
+    let left = drop_group(w, bounds, &b[..n]);
     put_real(w, left, rec)
 }
 
 // Takes a member out; its group is left behind, empty, where it was the last.
-pub fn leave(w: &mut [u8], b: &mut [u8], room: Room, rec: &[u8]) -> Room
-    requires { ⌜ Good (now w) room × IsRecord (now rec) × Grouped (recordIn (now rec) .kind) × (isConfig (recordIn (now rec)) || typesInOrder (values 1 (recordIn (now rec) .run)) ≡ true) × (room .used + mostRecord ≤ length (now w)) × (length (now rec) + 3 ≤ length (now b)) ⌝ }
-    ensures { λ r. ⌜ Made (leaveM (recordIn (now (rec .entry))) ∷ []) (now (w .entry)) room (now (w .exit)) r ⌝ }
+pub fn leave(w: &mut [u8], b: &mut [u8], bounds: Bounds, rec: &[u8]) -> Bounds
+    requires { ⌜ Good (now w) bounds × IsRecord (now rec) × Grouped (recordIn (now rec) .kind) × (isConfig (recordIn (now rec)) || typesInOrder (values 1 (recordIn (now rec) .run)) ≡ true) × (bounds .used + mostRecord ≤ length (now w)) × (length (now rec) + 3 ≤ length (now b)) ⌝ }
+    ensures { λ r. ⌜ Made (leaveM (recordIn (now (rec .entry))) ∷ []) (now (w .entry)) bounds (now (w .exit)) r ⌝ }
 {
     let n = group_record(b, rec);
-    let left = drop_real(w, room, rec);
+    let left = drop_real(w, bounds, rec);
     let mid = left.mid;
     if is_apart(&w[..mid], &b[..n]) {
         return put_group(w, left, &b[..n]);

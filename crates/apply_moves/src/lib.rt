@@ -1,5 +1,5 @@
 // Moves of single entries on a work array, but for topics, partitions and members of groups.
-use apply_work::Room;
+use apply_work::Bounds;
 use apply_work::drop_real;
 use apply_work::put_real;
 use find::probe;
@@ -15,22 +15,22 @@ ghost use Rattle.apply_work.specs.Work.{Good, mostRecord, Made};
 ghost use Rattle.apply_moves.specs.Moves.{IsPlain};
 
 // Stores a record in its key's place where Apply stores such a record, else takes its key's entry out.
-pub fn set(w: &mut [u8], room: Room, rec: &[u8]) -> Room
-    requires { ⌜ Good (now w) room × IsRecord (now rec) × IsPlain (recordIn (now rec)) × (room .used + mostRecord ≤ length (now w)) ⌝ }
-    ensures { λ r. ⌜ Made (setOrDrop (storable (recordIn (now (rec .entry)) .kind) (recordIn (now (rec .entry)) .run)) (recordIn (now (rec .entry))) ∷ []) (now (w .entry)) room (now (w .exit)) r ⌝ }
+pub fn set(w: &mut [u8], bounds: Bounds, rec: &[u8]) -> Bounds
+    requires { ⌜ Good (now w) bounds × IsRecord (now rec) × IsPlain (recordIn (now rec)) × (bounds .used + mostRecord ≤ length (now w)) ⌝ }
+    ensures { λ r. ⌜ Made (setOrDrop (storable (recordIn (now (rec .entry)) .kind) (recordIn (now (rec .entry)) .run)) (recordIn (now (rec .entry))) ∷ []) (now (w .entry)) bounds (now (w .exit)) r ⌝ }
 {
     if is_storable(rec) {
-        return put_real(w, room, rec);
+        return put_real(w, bounds, rec);
     }
-    drop_real(w, room, rec)
+    drop_real(w, bounds, rec)
 }
 
 // Takes the entry of a kind that a first field names out.
-pub fn erase_named(w: &mut [u8], room: Room, kind: u8, name: &[u8]) -> Room
-    requires { ⌜ Good (now w) room × Query kind (now name) [] ⌝ }
-    ensures { λ r. ⌜ Made (dropM (queryKey kind (now (name .entry)) []) ∷ []) (now (w .entry)) room (now (w .exit)) r ⌝ }
+pub fn erase_named(w: &mut [u8], bounds: Bounds, kind: u8, name: &[u8]) -> Bounds
+    requires { ⌜ Good (now w) bounds × Query kind (now name) [] ⌝ }
+    ensures { λ r. ⌜ Made (dropM (queryKey kind (now (name .entry)) []) ∷ []) (now (w .entry)) bounds (now (w .exit)) r ⌝ }
 {
     let mut p = [0; 519];
     let n = probe(&mut p, kind, name, b"");
-    drop_real(w, room, &p[..n])
+    drop_real(w, bounds, &p[..n])
 }

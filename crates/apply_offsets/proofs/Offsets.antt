@@ -17,8 +17,8 @@ use Rattle.keys.specs.Keys.{kindIn, runIn, keyIn}
 use Rattle.entries.specs.Entries.{Entries, Placed, IsRecord, recordIn}
 use Rattle.entries.proofs.Changes.{record-in, key-in}
 use Rattle.image_entries.proofs.Records.{headed, kind-in, run-in, value-is}
-use Rattle.judge.specs.Judge.{entriesIn}
-use Rattle.judge.proofs.Held.{Held, held, held-run, none-run}
+use Rattle.entries.specs.Held.{entriesIn}
+use Rattle.find.proofs.Held.{Held, held, held-run, none-run}
 
 -- 1. A record's advance, or an entry's offset
 

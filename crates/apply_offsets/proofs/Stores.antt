@@ -19,7 +19,7 @@ use Rattle.entries.proofs.Changes.{record-in}
 use Rattle.apply_drafts.specs.Drafts.{spells, IsDraft, Drafted}
 use Rattle.apply_drafts.proofs.Drafts.{spells-record, held-draft, set-held, copy-drafted}
 use Rattle.apply_work.specs.Work.{Made}
-use Rattle.apply_work.specs.declared.Room.{Room}
+use Rattle.apply_work.specs.declared.Bounds.{Bounds}
 use Rattle.apply_moves.specs.Moves.{IsPlain}
 use Rattle.apply_moves.proofs.Singles.{setMove}
 use Rattle.apply_offsets.specs.Advances.{sumAfter, offsetRec}
@@ -77,5 +77,5 @@ module _ (advance : Bytes) (i : IsRecord advance) (is : recordIn advance .kind �
         ∙ ap (λ v. putM (rec PartitionOffsetAdvance (setField 3 v run)) ∷ []) (sum-bytes (sumAfter run l) o e)
 
     pub offset-made : (l : List Entry) → o ≡ (sumAfter run l - half 8) % span 8
-        → {w v : Bytes} {room r : Room} → Made (setMove (recordIn s) ∷ []) w room v r → Made (plan PartitionOffsetAdvance run l) w room v r
-    offset-made l e {w} {v} {room} {r} m = subst (λ ms. Made ms w room v r) (same-move l e) m
+        → {w v : Bytes} {bounds r : Bounds} → Made (setMove (recordIn s) ∷ []) w bounds v r → Made (plan PartitionOffsetAdvance run l) w bounds v r
+    offset-made l e {w} {v} {bounds} {r} m = subst (λ ms. Made ms w bounds v r) (same-move l e) m

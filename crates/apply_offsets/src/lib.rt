@@ -2,9 +2,9 @@
 use apply_drafts::copy_in;
 use apply_drafts::set_field;
 use apply_moves::set;
-use apply_work::Room;
+use apply_work::Bounds;
 use entries::seek;
-use judge::place_in;
+use keys::place_in;
 ghost use mathlib.Core.Path.{_≡_};
 ghost use Prim.Native.Nat.{_+_, _≤_};
 ghost use lib.ListN.{length, take};
@@ -14,7 +14,7 @@ ghost use Rattle.model.specs.Record.{recordBytes};
 ghost use Rattle.model.specs.Move.{offsetSum, sumLeaves, storedOffset, plan};
 ghost use Rattle.model.specs.declared.Kind.the-variants.{PartitionOffsetAdvance};
 ghost use Rattle.entries.specs.Entries.{Entries, IsRecord, recordIn};
-ghost use Rattle.judge.specs.Judge.{entriesIn};
+ghost use Rattle.entries.specs.Held.{entriesIn};
 ghost use Rattle.apply_drafts.specs.Drafts.{draftRoom};
 ghost use Rattle.apply_work.specs.Work.{Good, heldIn, mostRecord, Made};
 ghost use Rattle.apply_offsets.specs.Advances.{sumAfter, IsSum, offsetRec};
@@ -115,12 +115,12 @@ fn draft(b: &mut [u8], rec: &[u8], offset: u64) -> usize
 }
 
 // Stores the sum in the record's place.
-pub fn advance(w: &mut [u8], b: &mut [u8], room: Room, rec: &[u8]) -> Room
-    requires { ⌜ Good (now w) room × IsRecord (now rec) × (recordIn (now rec) .kind ≡ PartitionOffsetAdvance) × (room .used + mostRecord ≤ length (now w)) × (draftRoom ≤ length (now b)) ⌝ }
-    ensures { λ r. ⌜ Made (plan PartitionOffsetAdvance (recordIn (now (rec .entry)) .run) (heldIn (now (w .entry)) room)) (now (w .entry)) room (now (w .exit)) r ⌝ }
+pub fn advance(w: &mut [u8], b: &mut [u8], bounds: Bounds, rec: &[u8]) -> Bounds
+    requires { ⌜ Good (now w) bounds × IsRecord (now rec) × (recordIn (now rec) .kind ≡ PartitionOffsetAdvance) × (bounds .used + mostRecord ≤ length (now w)) × (draftRoom ≤ length (now b)) ⌝ }
+    ensures { λ r. ⌜ Made (plan PartitionOffsetAdvance (recordIn (now (rec .entry)) .run) (heldIn (now (w .entry)) bounds)) (now (w .entry)) bounds (now (w .exit)) r ⌝ }
 {
-    let mid = room.mid;
+    let mid = bounds.mid;
     let sum = sum_of(&w[..mid], rec);
     let n = draft(b, rec, sum.place);
-    set(w, room, &b[..n])
+    set(w, bounds, &b[..n])
 }

@@ -16,7 +16,7 @@ use Rattle.model.specs.Shape.{stored, fault}
 use Rattle.model.specs.Record.{Rec, recordBytes}
 use Rattle.model.specs.Contents.{Entry, topic, part, plain, kept, topicRun, flagBytes}
 use Rattle.model.specs.Image.{entryOf}
-use Rattle.model.specs.Move.{unname, tell}
+use Rattle.model.specs.Move.{clearNamed, countPartition}
 use Rattle.model.specs.declared.Kind.the-variants.{Topic}
 use Rattle.laws.specs.Choice.{and-left}
 use Rattle.laws.specs.Numbers.{bytes-are-bytes, number-bound, number-bytes}
@@ -58,12 +58,12 @@ chosen-topic tag v r h = and-left (eqb (kindNumber (r .kind)) 1) (sameBytes (val
 abbrev unnamed : Rec → Entry
 unnamed r = topic (nameOf r) (idOf r) (countIn r) (factorIn r) false
 
-unname-is : (i : Bytes) (r : Rec) → unname i (entryOf r) ≡ cond (isTopicWith 2 i r) (unnamed r) (entryOf r)
-unfolding unname entryOf isTopicWith
-unname-is i r = go (eqb (kindNumber (r .kind)) 1) (eqb (kindNumber (r .kind)) 2) (sameBytes (idOf r) i) refl
+clear-named-is : (i : Bytes) (r : Rec) → clearNamed i (entryOf r) ≡ cond (isTopicWith 2 i r) (unnamed r) (entryOf r)
+unfolding clearNamed entryOf isTopicWith
+clear-named-is i r = go (eqb (kindNumber (r .kind)) 1) (eqb (kindNumber (r .kind)) 2) (sameBytes (idOf r) i) refl
   where
     go : (a b c : Bool) → sameBytes (idOf r) i ≡ c
-        → unname i (cond a (topic (nameOf r) (idOf r) (countIn r) (factorIn r) (flagIn r)) (cond b (part (r .run)) (plain r)))
+        → clearNamed i (cond a (topic (nameOf r) (idOf r) (countIn r) (factorIn r) (flagIn r)) (cond b (part (r .run)) (plain r)))
         ≡ cond (a && c) (unnamed r) (cond a (topic (nameOf r) (idOf r) (countIn r) (factorIn r) (flagIn r)) (cond b (part (r .run)) (plain r)))
     go true b true e = rw e
     go true b false e = rw e
@@ -73,12 +73,12 @@ unname-is i r = go (eqb (kindNumber (r .kind)) 1) (eqb (kindNumber (r .kind)) 2)
 abbrev told : ℕ → ℕ → Rec → Entry
 told new replicas r = topic (nameOf r) (idOf r) (countIn r + new) replicas (flagIn r)
 
-tell-is : (name : Bytes) (new replicas : ℕ) (r : Rec) → tell name new replicas (entryOf r) ≡ cond (isTopicWith 1 name r) (told new replicas r) (entryOf r)
-unfolding tell entryOf isTopicWith
-tell-is name new replicas r = go (eqb (kindNumber (r .kind)) 1) (eqb (kindNumber (r .kind)) 2) (sameBytes (nameOf r) name) refl
+count-partition-is : (name : Bytes) (new replicas : ℕ) (r : Rec) → countPartition name new replicas (entryOf r) ≡ cond (isTopicWith 1 name r) (told new replicas r) (entryOf r)
+unfolding countPartition entryOf isTopicWith
+count-partition-is name new replicas r = go (eqb (kindNumber (r .kind)) 1) (eqb (kindNumber (r .kind)) 2) (sameBytes (nameOf r) name) refl
   where
     go : (a b c : Bool) → sameBytes (nameOf r) name ≡ c
-        → tell name new replicas (cond a (topic (nameOf r) (idOf r) (countIn r) (factorIn r) (flagIn r)) (cond b (part (r .run)) (plain r)))
+        → countPartition name new replicas (cond a (topic (nameOf r) (idOf r) (countIn r) (factorIn r) (flagIn r)) (cond b (part (r .run)) (plain r)))
         ≡ cond (a && c) (told new replicas r) (cond a (topic (nameOf r) (idOf r) (countIn r) (factorIn r) (flagIn r)) (cond b (part (r .run)) (plain r)))
     go true b true e = rw e
     go true b false e = rw e
@@ -139,15 +139,15 @@ module _ (r : Rec) (s : Sound r) where
           ∙ ap (λ x. length (recordBytes x)) as-kept;
     }
 
-  pub unname-fits : (i : Bytes) → Fits r (unname i (entryOf r))
-  unname-fits i = rw (unname-is i r) (go (isTopicWith 2 i r) refl)
+  pub clear-named-fits : (i : Bytes) → Fits r (clearNamed i (entryOf r))
+  clear-named-fits i = rw (clear-named-is i r) (go (isTopicWith 2 i r) refl)
     where
       go : (b : Bool) → isTopicWith 2 i r ≡ b → Fits r (cond b (unnamed r) (entryOf r))
       go true e = let t = chosen-topic 2 i r e in fits-topic t (countIn r) (factorIn r) false (count-low t) (factor-low t)
       go false e = fits-same
 
-  pub tell-fits : (name : Bytes) (new replicas : ℕ) → CountFits (entryOf r) → new ≤ 1 → replicas < 65536 → Fits r (tell name new replicas (entryOf r))
-  tell-fits name new replicas most low few = rw (tell-is name new replicas r) (go (isTopicWith 1 name r) refl)
+  pub count-partition-fits : (name : Bytes) (new replicas : ℕ) → CountFits (entryOf r) → new ≤ 1 → replicas < 65536 → Fits r (countPartition name new replicas (entryOf r))
+  count-partition-fits name new replicas most low few = rw (count-partition-is name new replicas r) (go (isTopicWith 1 name r) refl)
     where
       go : (b : Bool) → isTopicWith 1 name r ≡ b → Fits r (cond b (told new replicas r) (entryOf r))
       go true e =
@@ -193,23 +193,23 @@ module _ {s : Bytes} (h : StandsFor s) where
     numbers-there e = numbers-fit (nameOf r) (idOf r) (countIn r) (factorIn r) (flagIn r) (as-topic (is-chosen e))
 
   module _ (id : Bytes) {b : Bool} (said : b ≡ isTopicWith 2 id (recordIn s)) where
-    pub unname-stays : b ≡ false → s ≡ patched (unname id) s
-    unname-stays e = stays (unname id) (unname-is id r ∙ ap (λ x. cond x (unnamed r) (entryOf r)) (sym said ∙ e))
+    pub clear-named-stays : b ≡ false → s ≡ patched (clearNamed id) s
+    clear-named-stays e = stays (clearNamed id) (clear-named-is id r ∙ ap (λ x. cond x (unnamed r) (entryOf r)) (sym said ∙ e))
 
-    pub unname-put : b ≡ true → {v : Bytes} → v ≡ take (length s - 1) s ++ bytes 1 0 ++ drop (length s - 1 + 1) s → v ≡ patched (unname id) s
-    unname-put e put =
+    pub clear-named-put : b ≡ true → {v : Bytes} → v ≡ take (length s - 1) s ++ bytes 1 0 ++ drop (length s - 1 + 1) s → v ≡ patched (clearNamed id) s
+    clear-named-put e put =
         flag-cleared (nameOf r) (idOf r) (countIn r) (factorIn r) (flagIn r) (as-topic (is-chosen 2 id said e)) put
-        ∙ ap (λ x. recordBytes (kept x)) (sym (unname-is id r ∙ ap (λ x. cond x (unnamed r) (entryOf r)) (sym said ∙ e)))
+        ∙ ap (λ x. recordBytes (kept x)) (sym (clear-named-is id r ∙ ap (λ x. cond x (unnamed r) (entryOf r)) (sym said ∙ e)))
 
   module _ (name : Bytes) (new replicas : ℕ) {b : Bool} (said : b ≡ isTopicWith 1 name (recordIn s)) where
-    pub tell-stays : b ≡ false → s ≡ patched (tell name new replicas) s
-    tell-stays e =
-        stays (tell name new replicas) (tell-is name new replicas r ∙ ap (λ x. cond x (told new replicas r) (entryOf r)) (sym said ∙ e))
+    pub count-partition-stays : b ≡ false → s ≡ patched (countPartition name new replicas) s
+    count-partition-stays e =
+        stays (countPartition name new replicas) (count-partition-is name new replicas r ∙ ap (λ x. cond x (told new replicas r) (entryOf r)) (sym said ∙ e))
 
-    pub tell-put : b ≡ true → {n : ℕ} {u v : Bytes} → n ≡ number (slice (length s - 17) (length s - 17 + 4) s)
+    pub count-partition-put : b ≡ true → {n : ℕ} {u v : Bytes} → n ≡ number (slice (length s - 17) (length s - 17 + 4) s)
         → u ≡ take (length s - 17) s ++ bytes 4 (n + new) ++ drop (length s - 17 + 4) s
-        → v ≡ take (length s - 10) u ++ bytes 2 replicas ++ drop (length s - 10 + 2) u → v ≡ patched (tell name new replicas) s
-    tell-put e {n} {u} {v} get put-count put-factor =
+        → v ≡ take (length s - 10) u ++ bytes 2 replicas ++ drop (length s - 10 + 2) u → v ≡ patched (countPartition name new replicas) s
+    count-partition-put e {n} {u} {v} get put-count put-factor =
         let t = is-chosen 1 name said e in
         let count : n ≡ countIn r =
         count-read (nameOf r) (idOf r) (countIn r) (factorIn r) (flagIn r) (as-topic t) get ∙ number-bytes 4 (countIn r) (count-low r sound-in t) in
@@ -221,4 +221,4 @@ module _ {s : Bytes} (h : StandsFor s) where
         ∙ sym (ap length u-is ∙ length-topic (nameOf r) (idOf r) (countIn r + new) (factorIn r) (flagIn r)) in
         factor-changed (nameOf r) (idOf r) (countIn r + new) (factorIn r) (flagIn r) u-is replicas
         (put-factor ∙ ap (λ m. take (m - 10) u ++ bytes 2 replicas ++ drop (m - 10 + 2) u) long)
-        ∙ ap (λ x. recordBytes (kept x)) (sym (tell-is name new replicas r ∙ ap (λ x. cond x (told new replicas r) (entryOf r)) (sym said ∙ e)))
+        ∙ ap (λ x. recordBytes (kept x)) (sym (count-partition-is name new replicas r ∙ ap (λ x. cond x (told new replicas r) (entryOf r)) (sym said ∙ e)))

@@ -11,7 +11,7 @@ use Rattle.model.specs.Shape.{stored, fault}
 use Rattle.model.specs.Record.{Rec, recordBytes}
 use Rattle.model.specs.Contents.{Entry, kept}
 use Rattle.model.specs.Image.{entryOf}
-use Rattle.model.specs.Move.{unname, tell}
+use Rattle.model.specs.Move.{clearNamed, countPartition}
 use Rattle.laws.specs.Numbers.{take-are-bytes}
 use Rattle.laws.specs.Lists.{All, all-imp, all-both, all-map, map-all, map-map}
 use Rattle.laws_records.specs.Items.{AllPass, records-items}
@@ -25,9 +25,9 @@ use Rattle.entries.proofs.Seeks.{no-records}
 use Rattle.entries.proofs.Turns.{Stands, lent, turn-falls}
 use Rattle.find.specs.Found.{AllKept}
 use Rattle.apply_work.specs.Work.{realsIn, groupsIn, Good}
-use Rattle.apply_work.specs.declared.Room.{Room}
+use Rattle.apply_work.specs.declared.Bounds.{Bounds}
 use Rattle.apply_patches.specs.Patches.{CountFits, StandsFor, patched}
-use Rattle.apply_patches.proofs.Entries.{Fits, Sound, unname-fits, tell-fits}
+use Rattle.apply_patches.proofs.Entries.{Fits, Sound, clear-named-fits, count-partition-fits}
 
 -- the record in a record's place
 abbrev remade : (Entry → Entry) → Rec → Rec
@@ -80,8 +80,8 @@ module _ {f : Entry → Entry} {P : Rec → Type 0} (suits : Suits f P) {w₀ w 
   inside : end ≤ mid
   inside = omega (arith, t .last, t .entry .fits, whole within h)
 
-  pub bounds : (start ≤ end) × (end ≤ length w)
-  bounds = (longer, omega (arith, inside, within, h .same))
+  pub place-within : (start ≤ end) × (end ≤ length w)
+  place-within = (longer, omega (arith, inside, within, h .same))
 
   next-end : next .at ≡ end
   next-end = ap (λ c. c .at) (t .after)
@@ -132,15 +132,15 @@ module _ {f : Entry → Entry} {P : Rec → Type 0} (suits : Suits f P) {w₀ w 
         ap length x-is
         ∙ suits .fits (t .entry .entry) (all-left .0) .long
         ∙ sym (ap length here-bytes)
-        ∙ mid-len start end w (bounds .1)
+        ∙ mid-len start end w (place-within .1)
 
     after-rest : drop end after ≡ drop end w
-    after-rest = drop-put start end w x longer (bounds .1) x-long
+    after-rest = drop-put start end w x longer (place-within .1) x-long
 
     after-front : take end after ≡ take at w ++ recordBytes (remade f (t .entry .entry))
     after-front =
         let far : length (take start w ++ x) ≡ end =
-        length-append (take start w) x ∙ ap₂ (λ a b. a + b) (length-take-le start w (omega (arith, longer, bounds .1))) x-long ∙ omega (arith, longer) in
+        length-append (take start w) x ∙ ap₂ (λ a b. a + b) (length-take-le start w (omega (arith, longer, place-within .1))) x-long ∙ omega (arith, longer) in
         ap (take end) (sym (append-assoc (take start w) x (postOf start (end - start) w)))
         ∙ take-at (take start w ++ x) (postOf start (end - start) w) end far
         ∙ ap₂ (λ a b. take a w ++ b) (t .first) x-is
@@ -151,7 +151,7 @@ module _ {f : Entry → Entry} {P : Rec → Type 0} (suits : Suits f P) {w₀ w 
         let l = recordsIn (slice end mid w) in
         let rest : slice end mid after ≡ slice end mid w = slice-again after w end mid inside after-rest in
         let k : Walked f P w₀ after mid end = record {
-          same = same-len-mid start (end - start) w x (x-long ∙ sym (mid-len start end w (bounds .1))) ∙ h .same;
+          same = same-len-mid start (end - start) w x (x-long ∙ sym (mid-len start end w (place-within .1))) ∙ h .same;
           are = known-bytes after are;
           most = inside;
           entries = rw (rest, t .last) (t .entry .rest);
@@ -167,45 +167,45 @@ module _ {f : Entry → Entry} {P : Rec → Type 0} (suits : Suits f P) {w₀ w 
 
 -- 2. The end
 
-module _ {f : Entry → Entry} {P : Rec → Type 0} (suits : Suits f P) {w₀ : Bytes} {room : Room} (good : Good w₀ room) (all : All P (realsIn w₀ room)) where
+module _ {f : Entry → Entry} {P : Rec → Type 0} (suits : Suits f P) {w₀ : Bytes} {bounds : Bounds} (good : Good w₀ bounds) (all : All P (realsIn w₀ bounds)) where
   abbrev made : List Rec
-  made = map (remade f) (realsIn w₀ room)
+  made = map (remade f) (realsIn w₀ bounds)
 
   made-pass : AllPass stored made
   made-pass =
-      all-map P (λ r. fault stored (r .kind) (r .run) ≡ 0) (remade f) (λ r p. suits .fits r p .passes) (realsIn w₀ room) all
+      all-map P (λ r. fault stored (r .kind) (r .run) ≡ 0) (remade f) (λ r p. suits .fits r p .passes) (realsIn w₀ bounds) all
 
   made-kept : AllKept made
-  made-kept = all-map P (λ r. kept (entryOf r) ≡ r) (remade f) (λ r p. ap kept (suits .fits r p .back)) (realsIn w₀ room) all
+  made-kept = all-map P (λ r. kept (entryOf r) ≡ r) (remade f) (λ r p. ap kept (suits .fits r p .back)) (realsIn w₀ bounds) all
 
-  made-entries : map entryOf made ≡ map f (map entryOf (realsIn w₀ room))
+  made-entries : map entryOf made ≡ map f (map entryOf (realsIn w₀ bounds))
   made-entries =
-      map-map entryOf (remade f) (realsIn w₀ room)
-      ∙ map-all (λ r. entryOf (remade f r)) (λ r. f (entryOf r)) (realsIn w₀ room)
-      (all-imp P (λ r. entryOf (remade f r) ≡ f (entryOf r)) (λ r p. suits .fits r p .back) (realsIn w₀ room) all)
-      ∙ sym (map-map f entryOf (realsIn w₀ room))
+      map-map entryOf (remade f) (realsIn w₀ bounds)
+      ∙ map-all (λ r. entryOf (remade f r)) (λ r. f (entryOf r)) (realsIn w₀ bounds)
+      (all-imp P (λ r. entryOf (remade f r) ≡ f (entryOf r)) (λ r p. suits .fits r p .back) (realsIn w₀ bounds) all)
+      ∙ sym (map-map f entryOf (realsIn w₀ bounds))
 
-  module _ {w : Bytes} {at : ℕ} (h : Walked f P w₀ w (room .mid) at) (past : length (take (room .mid) w) ≤ at) where
-    within : room .mid ≤ length w₀
+  module _ {w : Bytes} {at : ℕ} (h : Walked f P w₀ w (bounds .mid) at) (past : length (take (bounds .mid) w) ≤ at) where
+    within : bounds .mid ≤ length w₀
     within = omega (arith, good .order, good .fits)
 
-    at-end : at ≡ room .mid
+    at-end : at ≡ bounds .mid
     at-end = omega (arith, whole within h, h .most)
 
-    reals-bytes : take (room .mid) w ≡ spelt made
+    reals-bytes : take (bounds .mid) w ≡ spelt made
     reals-bytes =
-        let none : slice at (room .mid) w ≡ [] = ap (λ n. slice n (room .mid) w) at-end ∙ slice-empty (room .mid) w in
+        let none : slice at (bounds .mid) w ≡ [] = ap (λ n. slice n (bounds .mid) w) at-end ∙ slice-empty (bounds .mid) w in
         ap (λ n. take n w) (sym at-end)
-        ∙ sym (ap (λ l. take at w ++ spelt (map (remade f) l)) (no-records (slice at (room .mid) w) none) ∙ append-nil (take at w))
+        ∙ sym (ap (λ l. take at w ++ spelt (map (remade f) l)) (no-records (slice at (bounds .mid) w) none) ∙ append-nil (take at w))
         ∙ h .front
 
-    reals-are : realsIn w room ≡ made
+    reals-are : realsIn w bounds ≡ made
     reals-are = rw reals-bytes (records-items stored made made-pass .0)
 
-    groups-bytes : slice (room .mid) (room .used) w ≡ slice (room .mid) (room .used) w₀
-    groups-bytes = slice-again w w₀ (room .mid) (room .used) (good .order) (h .back)
+    groups-bytes : slice (bounds .mid) (bounds .used) w ≡ slice (bounds .mid) (bounds .used) w₀
+    groups-bytes = slice-again w w₀ (bounds .mid) (bounds .used) (good .order) (h .back)
 
-    pub closed : Good w room × (map entryOf (realsIn w room) ≡ map f (map entryOf (realsIn w₀ room))) × (groupsIn w room ≡ groupsIn w₀ room)
+    pub closed : Good w bounds × (map entryOf (realsIn w bounds) ≡ map f (map entryOf (realsIn w₀ bounds))) × (groupsIn w bounds ≡ groupsIn w₀ bounds)
     closed = (
       record {
         order = good .order;
@@ -220,25 +220,25 @@ module _ {f : Entry → Entry} {P : Rec → Type 0} (suits : Suits f P) {w₀ : 
 
 -- 3. The real entries of a work array
 
-module _ {w : Bytes} {room : Room} (are : AreBytes w) (good : Good w room) where
-  pub all-sound : All Sound (realsIn w room)
+module _ {w : Bytes} {bounds : Bounds} (are : AreBytes w) (good : Good w bounds) where
+  pub all-sound : All Sound (realsIn w bounds)
   all-sound =
       let passes : Rec → Type 0 = λ r. fault stored (r .kind) (r .run) ≡ 0 in
       let keeps : Rec → Type 0 = λ r. kept (entryOf r) ≡ r in
-      all-imp (λ r. passes r × keeps r) Sound (λ r p. record { passes = p .0; keeps = p .1 }) (realsIn w room)
-      (all-both passes keeps (realsIn w room) (entries-pass (take (room .mid) w) (take-are-bytes (room .mid) w are) (good .reals)) (good .keeps))
+      all-imp (λ r. passes r × keeps r) Sound (λ r p. record { passes = p .0; keeps = p .1 }) (realsIn w bounds)
+      (all-both passes keeps (realsIn w bounds) (entries-pass (take (bounds .mid) w) (take-are-bytes (bounds .mid) w are) (good .reals)) (good .keeps))
 
   counts-back : (l : List Rec) → All CountFits (map entryOf l) → All (λ r. CountFits (entryOf r)) l
   counts-back [] a = tt
   counts-back (r ∷ l) a = (a .0, counts-back l (a .1))
 
-  pub all-counted : All CountFits (map entryOf (realsIn w room)) → All (λ r. Sound r × CountFits (entryOf r)) (realsIn w room)
-  all-counted a = all-both Sound (λ r. CountFits (entryOf r)) (realsIn w room) all-sound (counts-back (realsIn w room) a)
+  pub all-counted : All CountFits (map entryOf (realsIn w bounds)) → All (λ r. Sound r × CountFits (entryOf r)) (realsIn w bounds)
+  all-counted a = all-both Sound (λ r. CountFits (entryOf r)) (realsIn w bounds) all-sound (counts-back (realsIn w bounds) a)
 
 -- 4. The two changes
 
-pub unname-suits : (id : Bytes) → Suits (unname id) Sound
-unname-suits id = record { sound = λ r s. s; fits = λ r s. unname-fits r s id }
+pub clear-named-suits : (id : Bytes) → Suits (clearNamed id) Sound
+clear-named-suits id = record { sound = λ r s. s; fits = λ r s. clear-named-fits r s id }
 
-pub tell-suits : (name : Bytes) (new replicas : ℕ) → new ≤ 1 → replicas < 65536 → Suits (tell name new replicas) (λ r. Sound r × CountFits (entryOf r))
-tell-suits name new replicas low few = record { sound = λ r p. p .0; fits = λ r p. tell-fits r (p .0) name new replicas (p .1) low few }
+pub count-partition-suits : (name : Bytes) (new replicas : ℕ) → new ≤ 1 → replicas < 65536 → Suits (countPartition name new replicas) (λ r. Sound r × CountFits (entryOf r))
+count-partition-suits name new replicas low few = record { sound = λ r p. p .0; fits = λ r p. count-partition-fits r (p .0) name new replicas (p .1) low few }

@@ -11,8 +11,8 @@ use Rattle.model.specs.declared.Kind.the-variants.{PartitionOffsetAdvance}
 use Rattle.laws.specs.Choice.{impossible}
 use Rattle.keys.specs.Keys.{kindIn}
 use Rattle.entries.specs.Entries.{IsRecord, recordIn}
-use Rattle.judge.specs.Judge.{IsLogged, loggedIn}
-use Rattle.judge.proofs.Logged.{kind-in}
+use Rattle.find.specs.Logged.{IsLogged, loggedIn}
+use Rattle.find.proofs.Logged.{kind-in}
 use Rattle.apply_plan.specs.Plans.{leavesBy}
 use Rattle.apply_plan.proofs.ByKind.{logged-is, record-logged, record-kind}
 

@@ -31,20 +31,20 @@ use Rattle.keys.specs.Keys.{runIn}
 use Rattle.entries.specs.Entries.{IsRecord, recordIn}
 use Rattle.image_entries.proofs.Records.{headed, run-in, kind-in, value-is}
 use Rattle.find.specs.Found.{queryKey}
-use Rattle.judge.proofs.Queries.{broker-key}
+use Rattle.find.proofs.Queries.{broker-key}
 use Rattle.apply_moves.specs.Moves.{IsPlain}
 use Rattle.apply_moves.proofs.Singles.{setMove}
 use Rattle.apply_work.specs.Work.{Good, Made}
-use Rattle.apply_work.specs.declared.Room.{Room}
+use Rattle.apply_work.specs.declared.Bounds.{Bounds}
 use Rattle.apply_work.proofs.Made.{made-none}
 
 -- 1. Lists of moves that are equal
 
-pub same-moves : {ms ns : List Move} {w v : Bytes} {room r : Room} → ms ≡ ns → Made ms w room v r → Made ns w room v r
-same-moves {ms} {ns} {w} {v} {room} {r} e m = subst (λ x. Made x w room v r) e m
+pub same-moves : {ms ns : List Move} {w v : Bytes} {bounds r : Bounds} → ms ≡ ns → Made ms w bounds v r → Made ns w bounds v r
+same-moves {ms} {ns} {w} {v} {bounds} {r} e m = subst (λ x. Made x w bounds v r) e m
 
-pub drop-lent : (kind : ℕ) {n name : Bytes} → n ≡ name → {w v : Bytes} {room r : Room}
-    → Made (dropM (queryKey kind n []) ∷ []) w room v r → Made (dropM (queryKey kind name []) ∷ []) w room v r
+pub drop-lent : (kind : ℕ) {n name : Bytes} → n ≡ name → {w v : Bytes} {bounds r : Bounds}
+    → Made (dropM (queryKey kind n []) ∷ []) w bounds v r → Made (dropM (queryKey kind name []) ∷ []) w bounds v r
 drop-lent kind e m = same-moves (ap (λ x. dropM (queryKey kind x []) ∷ []) e) m
 
 -- 2. Members of a group
@@ -54,18 +54,18 @@ unfolding kindNumber
 bare-member config run = refl
 bare-member quota run = refl
 
-module _ (x : Rec) (g : Grouped (x .kind)) {b : Bool} (e : b ≡ isBare x) {w v : Bytes} {room r : Room} where
-  pub left : b ≡ true → Made (leaveM x ∷ []) w room v r → Made (joinOrLeave (isSome (field 3 (x .run))) x ∷ []) w room v r
+module _ (x : Rec) (g : Grouped (x .kind)) {b : Bool} (e : b ≡ isBare x) {w v : Bytes} {bounds r : Bounds} where
+  pub left : b ≡ true → Made (leaveM x ∷ []) w bounds v r → Made (joinOrLeave (isSome (field 3 (x .run))) x ∷ []) w bounds v r
   left t m = go (isSome (field 3 (x .run))) (sym t ∙ e ∙ bare-member g (x .run))
     where
-      go : (s : Bool) → true ≡ not s → Made (joinOrLeave s x ∷ []) w room v r
+      go : (s : Bool) → true ≡ not s → Made (joinOrLeave s x ∷ []) w bounds v r
       go true q = impossible cc
       go false q = m
 
-  pub joined : b ≡ false → Made (joinM x ∷ []) w room v r → Made (joinOrLeave (isSome (field 3 (x .run))) x ∷ []) w room v r
+  pub joined : b ≡ false → Made (joinM x ∷ []) w bounds v r → Made (joinOrLeave (isSome (field 3 (x .run))) x ∷ []) w bounds v r
   joined t m = go (isSome (field 3 (x .run))) (sym t ∙ e ∙ bare-member g (x .run))
     where
-      go : (s : Bool) → false ≡ not s → Made (joinOrLeave s x ∷ []) w room v r
+      go : (s : Bool) → false ≡ not s → Made (joinOrLeave s x ∷ []) w bounds v r
       go true q = m
       go false q = impossible cc
 
@@ -82,8 +82,8 @@ module _ (f : Run) {x : Rec} (e : x ≡ sortedQuota f) where
       ap (λ y. typesInOrder (values 1 (y .run))) e ∙ ap typesInOrder (sorted-values f) ∙ sorted-in-order (values 1 f) in
       rw (ordered, or-true)
 
-  pub quota-made : (l : List Entry) {w v : Bytes} {room r : Room} → Made (joinOrLeave (isSome (field 3 (x .run))) x ∷ []) w room v r
-      → Made (plan ClientQuota f l) w room v r
+  pub quota-made : (l : List Entry) {w v : Bytes} {bounds r : Bounds} → Made (joinOrLeave (isSome (field 3 (x .run))) x ∷ []) w bounds v r
+      → Made (plan ClientQuota f l) w bounds v r
   unfolding plan
   quota-made l m =
       same-moves (ap (λ y. joinOrLeave (isSome (field 3 (y .run))) y ∷ []) e ∙ ap (λ o. joinOrLeave (isSome o) (sortedQuota f) ∷ []) (sorted-value f)) m
@@ -111,8 +111,8 @@ module _ (s : Bytes) (i : IsRecord s) where
       above : ltb next new ≡ isAbove 8 (value 3 (recordIn s .run)) (storedNext l)
       above = rw (en, ew, run-in s i) refl
 
-      pub producers-put : AreBytes s → All Stored l → next < new → {w v : Bytes} {room r : Room} → Made (setMove (recordIn s) ∷ []) w room v r
-          → Made (plan ProducerIds (recordIn s .run) l) w room v r
+      pub producers-put : AreBytes s → All Stored l → next < new → {w v : Bytes} {bounds r : Bounds} → Made (setMove (recordIn s) ∷ []) w bounds v r
+          → Made (plan ProducerIds (recordIn s .run) l) w bounds v r
       unfolding plan
       producers-put are u h m =
           let f = recordIn s .run in
@@ -128,7 +128,7 @@ module _ (s : Bytes) (i : IsRecord s) where
               ∙ ap (λ b. setOrDrop b (rec ProducerIds (recordIn s .run)) ∷ []) k
               ∙ sym (ap (λ b. cond b (putM (rec ProducerIds (recordIn s .run)) ∷ []) []) t)
 
-      pub producers-none : new ≤ next → {w : Bytes} {room : Room} → Good w room → Made (plan ProducerIds (recordIn s .run) l) w room w room
+      pub producers-none : new ≤ next → {w : Bytes} {bounds : Bounds} → Good w bounds → Made (plan ProducerIds (recordIn s .run) l) w bounds w bounds
       unfolding plan
       producers-none h good =
           same-moves (sym (ap (λ b. cond b (putM (rec ProducerIds (recordIn s .run)) ∷ []) []) (sym above ∙ le-ltb next new h))) (made-none good)
@@ -143,15 +143,15 @@ module _ (s : Bytes) (i : IsRecord s) where
       tested : b ≡ atEpoch (value 2 (recordIn s .run)) (brokerAt (value 1 (recordIn s .run)) l)
       tested = e ∙ ap (λ r. atEpoch (value 2 r) (brokerAt (value 1 r) l)) (run-in s i)
 
-      pub unregistered : b ≡ true → {n : Bytes} → n ≡ value 1 (runIn s) → {w v : Bytes} {room r : Room} → Made (dropM (queryKey 3 n []) ∷ []) w room v r
-          → Made (plan UnregisterBroker (recordIn s .run) l) w room v r
+      pub unregistered : b ≡ true → {n : Bytes} → n ≡ value 1 (runIn s) → {w v : Bytes} {bounds r : Bounds} → Made (dropM (queryKey 3 n []) ∷ []) w bounds v r
+          → Made (plan UnregisterBroker (recordIn s .run) l) w bounds v r
       unfolding plan
       unregistered t {n} en m =
           same-moves
           (ap (λ k. dropM k ∷ []) (ap (λ x. queryKey 3 x []) (en ∙ ap (value 1) (run-in s i)) ∙ broker-key (value 1 (recordIn s .run)))
           ∙ sym (ap (λ x. cond x (dropM (nodeKey BrokerRegistration (value 1 (recordIn s .run))) ∷ []) []) (sym tested ∙ t))) m
 
-      pub not-registered : b ≡ false → {w : Bytes} {room : Room} → Good w room → Made (plan UnregisterBroker (recordIn s .run) l) w room w room
+      pub not-registered : b ≡ false → {w : Bytes} {bounds : Bounds} → Good w bounds → Made (plan UnregisterBroker (recordIn s .run) l) w bounds w bounds
       unfolding plan
       not-registered t good =
           same-moves (sym (ap (λ x. cond x (dropM (nodeKey BrokerRegistration (value 1 (recordIn s .run))) ∷ []) []) (sym tested ∙ t))) (made-none good)

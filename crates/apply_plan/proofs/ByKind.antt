@@ -23,13 +23,13 @@ use Rattle.keys.specs.Keys.{kindIn, runIn}
 use Rattle.entries.specs.Entries.{IsRecord, recordIn}
 use Rattle.entries.proofs.Changes.{record-in}
 use Rattle.find.specs.Found.{Query, queryKey}
-use Rattle.judge.specs.Judge.{IsLogged, loggedIn}
-use Rattle.judge.proofs.Logged.{logged-in, run-in, passes, kind-is, value-of}
-use Rattle.judge.proofs.Queries.{controller-key, proposal-query, proposal-key}
+use Rattle.find.specs.Logged.{IsLogged, loggedIn}
+use Rattle.find.proofs.Logged.{logged-in, run-in, passes, kind-is, value-of}
+use Rattle.find.proofs.Queries.{controller-key, proposal-query, proposal-key}
 use Rattle.apply_moves.specs.Moves.{IsPlain}
 use Rattle.apply_moves.proofs.Singles.{setMove}
 use Rattle.apply_work.specs.Work.{Good, heldIn, Made}
-use Rattle.apply_work.specs.declared.Room.{Room}
+use Rattle.apply_work.specs.declared.Bounds.{Bounds}
 use Rattle.apply_work.proofs.Made.{made-none, made-one, made-then}
 use Rattle.apply_plan.proofs.Arms.{same-moves}
 
@@ -68,13 +68,13 @@ module _ (s : Bytes) (i : IsLogged s) (k : Kind) (is : kindIn s ≡ kindNumber k
   set-fields : (k ≡ Topic → ⊥) → setMove (recordIn s) ≡ setMove (rec k (recordIn s .run))
   set-fields apart = ap (λ x. setMove (rec x (recordIn s .run))) (record-kind apart)
 
-  module _ {w v : Bytes} {room r : Room} where
-    pub by-kind : Made (plan k (runIn s) (heldIn w room)) w room v r → Made (plan (loggedIn s .kind) (loggedIn s .run) (heldIn w room)) w room v r
-    by-kind m = same-moves (plan-kind (heldIn w room)) m
+  module _ {w v : Bytes} {bounds r : Bounds} where
+    pub by-kind : Made (plan k (runIn s) (heldIn w bounds)) w bounds v r → Made (plan (loggedIn s .kind) (loggedIn s .run) (heldIn w bounds)) w bounds v r
+    by-kind m = same-moves (plan-kind (heldIn w bounds)) m
 
     module _ (apart : k ≡ Topic → ⊥) where
-      pub by-record : Made (plan k (recordIn s .run) (heldIn w room)) w room v r → Made (plan (loggedIn s .kind) (loggedIn s .run) (heldIn w room)) w room v r
-      by-record m = same-moves (ap₂ (λ x f. plan x f (heldIn w room)) (sym (kind-is s i k is)) (ap (λ x. x .run) (record-logged apart))) m
+      pub by-record : Made (plan k (recordIn s .run) (heldIn w bounds)) w bounds v r → Made (plan (loggedIn s .kind) (loggedIn s .run) (heldIn w bounds)) w bounds v r
+      by-record m = same-moves (ap₂ (λ x f. plan x f (heldIn w bounds)) (sym (kind-is s i k is)) (ap (λ x. x .run) (record-logged apart))) m
 
 -- 3. Kinds whose record is stored, or takes its key's entry out
 
@@ -137,7 +137,7 @@ set-plan proposal f l = refl
 set-plan elr f l = refl
 set-plan recovery f l = refl
 
-made-before : {k : Kind} (x : SetKind k) {w : Bytes} {room : Room} → Good w room → Made (before x) w room w room
+made-before : {k : Kind} (x : SetKind k) {w : Bytes} {bounds : Bounds} → Good w bounds → Made (before x) w bounds w bounds
 unfolding onReal onEmpties
 made-before broker good = made-none good
 made-before topic-config good = made-none good
@@ -157,35 +157,35 @@ module _ (s : Bytes) (i : IsLogged s) (k : Kind) (x : SetKind k) (is : kindIn s 
   pub set-is-plain : IsPlain (recordIn s)
   set-is-plain = record-plain s i k is (no-topic k (set-apart x .0)) (set-apart x .0) (set-apart x .1)
 
-  pub set-made : {w v : Bytes} {room r : Room} → Good w room → Made (setMove (recordIn s) ∷ []) w room v r
-      → Made (plan (loggedIn s .kind) (loggedIn s .run) (heldIn w room)) w room v r
-  set-made {w} {v} {room} {r} good m =
+  pub set-made : {w v : Bytes} {bounds r : Bounds} → Good w bounds → Made (setMove (recordIn s) ∷ []) w bounds v r
+      → Made (plan (loggedIn s .kind) (loggedIn s .run) (heldIn w bounds)) w bounds v r
+  set-made {w} {v} {bounds} {r} good m =
       let apart = no-topic k (set-apart x .0) in
       by-record s i k is apart
-      (same-moves (ap (λ y. before x ++ (y ∷ [])) (set-fields s i k is apart) ∙ set-plan x (recordIn s .run) (heldIn w room))
+      (same-moves (ap (λ y. before x ++ (y ∷ [])) (set-fields s i k is apart) ∙ set-plan x (recordIn s .run) (heldIn w bounds))
       (made-then (before x) (setMove (recordIn s) ∷ []) (made-before x good) m))
 
 -- 4. Kinds with a plan of their own
 
 module _ (s : Bytes) (i : IsLogged s) where
-  pub topic-made : kindIn s ≡ 1 → {w v : Bytes} {room r : Room}
-      → Made (topicM (value 1 (runIn s)) (value 2 (runIn s)) (number (value 4 (runIn s))) ∷ []) w room v r
-      → Made (plan (loggedIn s .kind) (loggedIn s .run) (heldIn w room)) w room v r
+  pub topic-made : kindIn s ≡ 1 → {w v : Bytes} {bounds r : Bounds}
+      → Made (topicM (value 1 (runIn s)) (value 2 (runIn s)) (number (value 4 (runIn s))) ∷ []) w bounds v r
+      → Made (plan (loggedIn s .kind) (loggedIn s .run) (heldIn w bounds)) w bounds v r
   unfolding plan kindNumber
   topic-made is m = by-kind s i Topic is m
 
-  pub part-made : kindIn s ≡ 2 → {w v : Bytes} {room r : Room} → Made (partM (recordIn s .run) ∷ []) w room v r
-      → Made (plan (loggedIn s .kind) (loggedIn s .run) (heldIn w room)) w room v r
+  pub part-made : kindIn s ≡ 2 → {w v : Bytes} {bounds r : Bounds} → Made (partM (recordIn s .run) ∷ []) w bounds v r
+      → Made (plan (loggedIn s .kind) (loggedIn s .run) (heldIn w bounds)) w bounds v r
   unfolding plan kindNumber
   part-made is m = by-record s i Partition is (λ e. impossible cc) m
 
-  pub delete-made : kindIn s ≡ 4 → {w v : Bytes} {room r : Room} → Made (deleteM (value 1 (runIn s)) ∷ []) w room v r
-      → Made (plan (loggedIn s .kind) (loggedIn s .run) (heldIn w room)) w room v r
+  pub delete-made : kindIn s ≡ 4 → {w v : Bytes} {bounds r : Bounds} → Made (deleteM (value 1 (runIn s)) ∷ []) w bounds v r
+      → Made (plan (loggedIn s .kind) (loggedIn s .run) (heldIn w bounds)) w bounds v r
   unfolding plan kindNumber
   delete-made is m = by-kind s i DeleteTopic is m
 
-  pub update-made : kindIn s ≡ 23 → {w v : Bytes} {room r : Room} → Made (updateMoves (recordIn s .run)) w room v r
-      → Made (plan (loggedIn s .kind) (loggedIn s .run) (heldIn w room)) w room v r
+  pub update-made : kindIn s ≡ 23 → {w v : Bytes} {bounds r : Bounds} → Made (updateMoves (recordIn s .run)) w bounds v r
+      → Made (plan (loggedIn s .kind) (loggedIn s .run) (heldIn w bounds)) w bounds v r
   unfolding plan kindNumber
   update-made is m = by-record s i PartitionUpdate is (λ e. impossible cc) m
 
@@ -193,11 +193,11 @@ module _ (s : Bytes) (i : IsLogged s) where
   unfolding rowsOf shapeOf kindNumber
   name-fits is = value-of s i DeleteTopic is 1 refl refl .1
 
-  pub kraft-made : kindIn s ≡ 10 → {w : Bytes} {room : Room} → Good w room → Made (plan (loggedIn s .kind) (loggedIn s .run) (heldIn w room)) w room w room
+  pub kraft-made : kindIn s ≡ 10 → {w : Bytes} {bounds : Bounds} → Good w bounds → Made (plan (loggedIn s .kind) (loggedIn s .run) (heldIn w bounds)) w bounds w bounds
   unfolding plan kindNumber onReal onEmpties
   kraft-made is good = by-kind s i KRaftVersion is (made-one (kraftM (number (value 1 (runIn s)))) good refl refl (omega arith))
 
-  pub epoch-made : kindIn s ≡ 13 → {w : Bytes} {room : Room} → Good w room → Made (plan (loggedIn s .kind) (loggedIn s .run) (heldIn w room)) w room w room
+  pub epoch-made : kindIn s ≡ 13 → {w : Bytes} {bounds : Bounds} → Good w bounds → Made (plan (loggedIn s .kind) (loggedIn s .run) (heldIn w bounds)) w bounds w bounds
   unfolding plan kindNumber onReal onEmpties
   epoch-made is good = by-kind s i FeaturesEpoch is (made-one (epochM (number (value 1 (runIn s)))) good refl refl (omega arith))
 
@@ -206,8 +206,8 @@ module _ (s : Bytes) (i : IsLogged s) where
   unfolding rowsOf shapeOf kindNumber
   proposal-asked is = proposal-query (value 1 (runIn s)) (omega (arith, value-of s i DeleteBreakGlassProposal is 1 refl refl))
 
-  pub proposal-made : kindIn s ≡ 20 → {w v : Bytes} {room r : Room} → Made (dropM (queryKey 19 (value 1 (runIn s)) []) ∷ []) w room v r
-      → Made (plan (loggedIn s .kind) (loggedIn s .run) (heldIn w room)) w room v r
+  pub proposal-made : kindIn s ≡ 20 → {w v : Bytes} {bounds r : Bounds} → Made (dropM (queryKey 19 (value 1 (runIn s)) []) ∷ []) w bounds v r
+      → Made (plan (loggedIn s .kind) (loggedIn s .run) (heldIn w bounds)) w bounds v r
   unfolding plan kindNumber
   proposal-made is m = by-kind s i DeleteBreakGlassProposal is (same-moves (ap (λ k. dropM k ∷ []) (proposal-key (value 1 (runIn s)))) m)
 
@@ -215,14 +215,14 @@ module _ (s : Bytes) (i : IsLogged s) where
   unfolding rowsOf shapeOf kindNumber
   controller-width is = value-of s i UnregisterController is 1 refl refl
 
-  pub controller-made : kindIn s ≡ 25 → {w v : Bytes} {room r : Room} → Made (dropM (queryKey 17 (value 1 (runIn s)) []) ∷ []) w room v r
-      → Made (plan (loggedIn s .kind) (loggedIn s .run) (heldIn w room)) w room v r
+  pub controller-made : kindIn s ≡ 25 → {w v : Bytes} {bounds r : Bounds} → Made (dropM (queryKey 17 (value 1 (runIn s)) []) ∷ []) w bounds v r
+      → Made (plan (loggedIn s .kind) (loggedIn s .run) (heldIn w bounds)) w bounds v r
   unfolding plan kindNumber
   controller-made is m = by-kind s i UnregisterController is (same-moves (ap (λ k. dropM k ∷ []) (controller-key (value 1 (runIn s)))) m)
 
   -- a member of a group, and a topic's end
-  pub config-made : kindIn s ≡ 6 → {w v : Bytes} {room r : Room}
-      → Made (joinOrLeave (isSome (field 3 (recordIn s .run))) (recordIn s) ∷ []) w room v r → Made (plan (loggedIn s .kind) (loggedIn s .run) (heldIn w room)) w room v r
+  pub config-made : kindIn s ≡ 6 → {w v : Bytes} {bounds r : Bounds}
+      → Made (joinOrLeave (isSome (field 3 (recordIn s .run))) (recordIn s) ∷ []) w bounds v r → Made (plan (loggedIn s .kind) (loggedIn s .run) (heldIn w bounds)) w bounds v r
   unfolding plan kindNumber
   config-made is m =
       by-record s i BrokerConfig is (λ e. impossible cc)

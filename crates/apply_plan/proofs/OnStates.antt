@@ -12,9 +12,9 @@ use Rattle.model.specs.declared.Kind.the-variants.{PartitionOffsetAdvance}
 use Rattle.laws.specs.Choice.{impossible}
 use Rattle.keys.specs.Keys.{kindIn, runIn}
 use Rattle.entries.specs.Entries.{recordIn}
-use Rattle.judge.specs.Judge.{IsLogged, loggedIn}
+use Rattle.find.specs.Logged.{IsLogged, loggedIn}
 use Rattle.apply_work.specs.Work.{Good, heldIn, fixedParts, stateIn, Made}
-use Rattle.apply_work.specs.declared.Room.{Room}
+use Rattle.apply_work.specs.declared.Bounds.{Bounds}
 use Rattle.apply_work.specs.declared.State.{State}
 use Rattle.apply_work.specs.declared.Tried.{Tried}
 use Rattle.apply_work.specs.declared.Tried.the-variants.{Refused, Moved}
@@ -36,42 +36,42 @@ module _ (s : Bytes) (i : IsLogged s) (w : Bytes) (state : State) where
   fixed-made ee ek = ap₂ (λ x y. record { epoch = x; kraft = y }) ee ek ∙ sym (moved-fixed (loggedIn s) (stateIn w state))
 
 module _ (s : Bytes) (i : IsLogged s) (w v : Bytes) (state : State) where
-  module _ {room : Room} (made : Made (plan (loggedIn s .kind) (loggedIn s .run) (heldIn w (state .room))) w (state .room) v room) {r : Tried} where
-    pub planned-room : {n : ℕ} → kindIn s ≡ n → Calm n → r ≡ Moved (record { room = room; epoch = state .epoch; kraft = state .kraft })
+  module _ {bounds : Bounds} (made : Made (plan (loggedIn s .kind) (loggedIn s .run) (heldIn w (state .bounds))) w (state .bounds) v bounds) {r : Tried} where
+    pub planned-bounds : {n : ℕ} → kindIn s ≡ n → Calm n → r ≡ Moved (record { bounds = bounds; epoch = state .epoch; kraft = state .kraft })
         → Planned (loggedIn s) w state v r
-    planned-room {n} is calm e =
+    planned-bounds {n} is calm e =
         let apart : (m : ℕ) → eqb n m ≡ false → eqb (kindIn s) m ≡ false = λ m q. rw is q in
         subst (Planned (loggedIn s) w state v) (sym e) (
-          no-advance s i (heldIn w (state .room)) (apart 15 (calm .3)),
+          no-advance s i (heldIn w (state .bounds)) (apart 15 (calm .3)),
           made,
           fixed-made s i w state (epoch-kept s i (state .epoch) (apart 11 (calm .1)) (apart 13 (calm .2))) (kraft-kept s i (state .kraft) (apart 10 (calm .0))),
         )
 
-    pub planned-level : kindIn s ≡ 11 → r ≡ Moved (record { room = room; epoch = bumped (state .epoch); kraft = state .kraft })
+    pub planned-level : kindIn s ≡ 11 → r ≡ Moved (record { bounds = bounds; epoch = bumped (state .epoch); kraft = state .kraft })
         → Planned (loggedIn s) w state v r
     planned-level is e =
         subst (Planned (loggedIn s) w state v) (sym e) (
-          no-advance s i (heldIn w (state .room)) (rw is refl),
+          no-advance s i (heldIn w (state .bounds)) (rw is refl),
           made,
           fixed-made s i w state (epoch-bumped s i (state .epoch) is refl) (kraft-kept s i (state .kraft) (rw is refl)),
         )
 
 -- records that move no entry
-module _ (s : Bytes) (i : IsLogged s) (w : Bytes) (state : State) (good : Good w (state .room)) {r : Tried} where
-  pub planned-epoch : kindIn s ≡ 13 → r ≡ Moved (record { room = state .room; epoch = number (value 1 (runIn s)); kraft = state .kraft })
+module _ (s : Bytes) (i : IsLogged s) (w : Bytes) (state : State) (good : Good w (state .bounds)) {r : Tried} where
+  pub planned-epoch : kindIn s ≡ 13 → r ≡ Moved (record { bounds = state .bounds; epoch = number (value 1 (runIn s)); kraft = state .kraft })
       → Planned (loggedIn s) w state w r
   planned-epoch is e =
       subst (Planned (loggedIn s) w state w) (sym e) (
-        no-advance s i (heldIn w (state .room)) (rw is refl),
+        no-advance s i (heldIn w (state .bounds)) (rw is refl),
         epoch-made s i is good,
         fixed-made s i w state (epoch-set s i (state .epoch) is refl) (kraft-kept s i (state .kraft) (rw is refl)),
       )
 
-  pub planned-kraft : kindIn s ≡ 10 → r ≡ Moved (record { room = state .room; epoch = state .epoch; kraft = number (value 1 (runIn s)) })
+  pub planned-kraft : kindIn s ≡ 10 → r ≡ Moved (record { bounds = state .bounds; epoch = state .epoch; kraft = number (value 1 (runIn s)) })
       → Planned (loggedIn s) w state w r
   planned-kraft is e =
       subst (Planned (loggedIn s) w state w) (sym e) (
-        no-advance s i (heldIn w (state .room)) (rw is refl),
+        no-advance s i (heldIn w (state .bounds)) (rw is refl),
         kraft-made s i is good,
         fixed-made s i w state (epoch-kept s i (state .epoch) (rw is refl) (rw is refl)) (kraft-set s i (state .kraft) is refl),
       )
@@ -80,9 +80,9 @@ module _ (s : Bytes) (i : IsLogged s) (w : Bytes) (state : State) (good : Good w
 module _ (s : Bytes) (i : IsLogged s) (is : kindIn s ≡ 15) (w v : Bytes) (state : State) where
   pub planned-offset : (r : Tried) → Added (recordIn s .run) w state v r → Planned (loggedIn s) w state v r
   unfolding kindNumber
-  planned-offset (Refused n) h = (h .0, sym (advance-leaves s i (heldIn w (state .room)) is) ∙ h .1)
+  planned-offset (Refused n) h = (h .0, sym (advance-leaves s i (heldIn w (state .bounds)) is) ∙ h .1)
   planned-offset (Moved t) h = (
-    sym (advance-leaves s i (heldIn w (state .room)) is) ∙ h .0,
+    sym (advance-leaves s i (heldIn w (state .bounds)) is) ∙ h .0,
     by-record s i PartitionOffsetAdvance is (λ e. impossible cc) (h .1),
     h .2 ∙ fixed-made s i w state (epoch-kept s i (state .epoch) (rw is refl) (rw is refl)) (kraft-kept s i (state .kraft) (rw is refl)),
   )

@@ -13,8 +13,8 @@ use Rattle.model.specs.Shape.{rowsOf, shapeOf}
 use Rattle.model.specs.Move.{bumped}
 use Rattle.model.specs.declared.Kind.the-variants.{KRaftVersion, FeaturesEpoch}
 use Rattle.keys.specs.Keys.{kindIn, runIn}
-use Rattle.judge.specs.Judge.{IsLogged, loggedIn}
-use Rattle.judge.proofs.Logged.{kind-in, run-in, value-of}
+use Rattle.find.specs.Logged.{IsLogged, loggedIn}
+use Rattle.find.proofs.Logged.{kind-in, run-in, value-of}
 use Rattle.apply_plan.specs.Fixed.{epochAfter, kraftAfter}
 
 -- 1. One more

@@ -2,7 +2,7 @@
 use apply_entities::sort_entities;
 use apply_groups::join;
 use apply_groups::leave;
-use apply_work::Room;
+use apply_work::Bounds;
 use image_entries::is_bare;
 ghost use mathlib.Core.Path.{_≡_};
 ghost use mathlib.Core.Bool.{true, _||_};
@@ -20,21 +20,21 @@ ghost use Rattle.apply_drafts.specs.Drafts.{draftRoom};
 ghost use Rattle.apply_work.specs.Work.{Good, heldIn, mostRecord, Made};
 
 // A member joins its group where it has a value, else it leaves.
-pub fn member(w: &mut [u8], b: &mut [u8], room: Room, rec: &[u8]) -> Room
-    requires { ⌜ Good (now w) room × IsRecord (now rec) × Grouped (recordIn (now rec) .kind) × (isConfig (recordIn (now rec)) || typesInOrder (values 1 (recordIn (now rec) .run)) ≡ true) × (room .used + mostRecord ≤ length (now w)) × (draftRoom ≤ length (now b)) ⌝ }
-    ensures { λ r. ⌜ Made (joinOrLeave (isSome (field 3 (recordIn (now (rec .entry)) .run))) (recordIn (now (rec .entry))) ∷ []) (now (w .entry)) room (now (w .exit)) r ⌝ }
+pub fn member(w: &mut [u8], b: &mut [u8], bounds: Bounds, rec: &[u8]) -> Bounds
+    requires { ⌜ Good (now w) bounds × IsRecord (now rec) × Grouped (recordIn (now rec) .kind) × (isConfig (recordIn (now rec)) || typesInOrder (values 1 (recordIn (now rec) .run)) ≡ true) × (bounds .used + mostRecord ≤ length (now w)) × (draftRoom ≤ length (now b)) ⌝ }
+    ensures { λ r. ⌜ Made (joinOrLeave (isSome (field 3 (recordIn (now (rec .entry)) .run))) (recordIn (now (rec .entry))) ∷ []) (now (w .entry)) bounds (now (w .exit)) r ⌝ }
 {
     if is_bare(rec) {
-        return leave(w, b, room, rec);
+        return leave(w, b, bounds, rec);
     }
-    join(w, b, room, rec)
+    join(w, b, bounds, rec)
 }
 
 // A quota, with its entities in order.
-pub fn quota(w: &mut [u8], a: &mut [u8], b: &mut [u8], room: Room, rec: &[u8]) -> Room
-    requires { ⌜ Good (now w) room × IsRecord (now rec) × (recordIn (now rec) .kind ≡ ClientQuota) × (room .used + mostRecord ≤ length (now w)) × (draftRoom ≤ length (now a)) × (draftRoom ≤ length (now b)) ⌝ }
-    ensures { λ r. ⌜ Made (plan ClientQuota (recordIn (now (rec .entry)) .run) (heldIn (now (w .entry)) room)) (now (w .entry)) room (now (w .exit)) r ⌝ }
+pub fn quota(w: &mut [u8], a: &mut [u8], b: &mut [u8], bounds: Bounds, rec: &[u8]) -> Bounds
+    requires { ⌜ Good (now w) bounds × IsRecord (now rec) × (recordIn (now rec) .kind ≡ ClientQuota) × (bounds .used + mostRecord ≤ length (now w)) × (draftRoom ≤ length (now a)) × (draftRoom ≤ length (now b)) ⌝ }
+    ensures { λ r. ⌜ Made (plan ClientQuota (recordIn (now (rec .entry)) .run) (heldIn (now (w .entry)) bounds)) (now (w .entry)) bounds (now (w .exit)) r ⌝ }
 {
     let n = sort_entities(a, rec);
-    member(w, b, room, &a[..n])
+    member(w, b, bounds, &a[..n])
 }

@@ -2,10 +2,11 @@
 use crate::epochs::bump;
 use apply_offsets::advance;
 use apply_offsets::overflows;
-use apply_work::Room;
+use apply_work::Bounds;
 use apply_work::State;
 use apply_work::Tried;
 use keys::number_at;
+use model::refusals::OVERFLOW;
 ghost use mathlib.Core.Path.{_≡_};
 ghost use Prim.Native.Nat.{_+_, _≤_};
 ghost use lib.ListN.{length};
@@ -20,29 +21,26 @@ ghost use Rattle.apply_work.specs.Work.{Good, mostRecord};
 ghost use Rattle.apply_work.specs.declared.Tried.the-variants.{Moved};
 ghost use Rattle.apply_plan.specs.Plans.{Added};
 
-// The refusal of an advance whose sum leaves i64.
-const OVERFLOW: u8 = 17;
-
 // The tag of the number that a kraft version or a features epoch sets.
 const SET_TO: usize = 1;
 
 // Entries that were moved, and the fixed parts as they were.
-pub fn with_room(state: State, room: Room) -> Tried
-    ensures { λ r. ⌜ r ≡ Moved (record { room = room; epoch = state .epoch; kraft = state .kraft }) ⌝ }
+pub fn with_bounds(state: State, bounds: Bounds) -> Tried
+    ensures { λ r. ⌜ r ≡ Moved (record { bounds = bounds; epoch = state .epoch; kraft = state .kraft }) ⌝ }
 {
     Tried::Moved(State {
-        room,
+        bounds,
         epoch: state.epoch,
         kraft: state.kraft,
     })
 }
 
 // The same, and the epoch after a feature level.
-pub fn with_level(state: State, room: Room) -> Tried
-    ensures { λ r. ⌜ r ≡ Moved (record { room = room; epoch = bumped (state .epoch); kraft = state .kraft }) ⌝ }
+pub fn with_level(state: State, bounds: Bounds) -> Tried
+    ensures { λ r. ⌜ r ≡ Moved (record { bounds = bounds; epoch = bumped (state .epoch); kraft = state .kraft }) ⌝ }
 {
     Tried::Moved(State {
-        room,
+        bounds,
         epoch: bump(state.epoch),
         kraft: state.kraft,
     })
@@ -51,11 +49,11 @@ pub fn with_level(state: State, room: Room) -> Tried
 // The epoch that a record sets.
 pub fn with_epoch(state: State, rec: &[u8]) -> Tried
     requires { ⌜ (3 ≤ length (now rec)) × (length (value 1 (runIn (now rec))) ≡ 8) ⌝ }
-    ensures { λ r. ⌜ r ≡ Moved (record { room = state .room; epoch = number (value 1 (runIn (now (rec .entry)))); kraft = state .kraft }) ⌝ }
+    ensures { λ r. ⌜ r ≡ Moved (record { bounds = state .bounds; epoch = number (value 1 (runIn (now (rec .entry)))); kraft = state .kraft }) ⌝ }
 {
-    let room = state.room;
+    let bounds = state.bounds;
     Tried::Moved(State {
-        room,
+        bounds,
         epoch: number_at(rec, SET_TO, 8),
         kraft: state.kraft,
     })
@@ -64,11 +62,11 @@ pub fn with_epoch(state: State, rec: &[u8]) -> Tried
 // The kraft version that a record sets.
 pub fn with_kraft(state: State, rec: &[u8]) -> Tried
     requires { ⌜ (3 ≤ length (now rec)) × (length (value 1 (runIn (now rec))) ≡ 2) ⌝ }
-    ensures { λ r. ⌜ r ≡ Moved (record { room = state .room; epoch = state .epoch; kraft = number (value 1 (runIn (now (rec .entry)))) }) ⌝ }
+    ensures { λ r. ⌜ r ≡ Moved (record { bounds = state .bounds; epoch = state .epoch; kraft = number (value 1 (runIn (now (rec .entry)))) }) ⌝ }
 {
-    let room = state.room;
+    let bounds = state.bounds;
     Tried::Moved(State {
-        room,
+        bounds,
         epoch: state.epoch,
         kraft: number_at(rec, SET_TO, 2),
     })
@@ -76,13 +74,13 @@ pub fn with_kraft(state: State, rec: &[u8]) -> Tried
 
 // Adds an advance to the stored offset, where the sum stays in i64.
 pub fn add_offset(w: &mut [u8], b: &mut [u8], state: State, rec: &[u8]) -> Tried
-    requires { ⌜ Good (now w) (state .room) × IsRecord (now rec) × (recordIn (now rec) .kind ≡ PartitionOffsetAdvance) × (state .room .used + mostRecord ≤ length (now w)) × (draftRoom ≤ length (now b)) ⌝ }
+    requires { ⌜ Good (now w) (state .bounds) × IsRecord (now rec) × (recordIn (now rec) .kind ≡ PartitionOffsetAdvance) × (state .bounds .used + mostRecord ≤ length (now w)) × (draftRoom ≤ length (now b)) ⌝ }
     ensures { λ r. ⌜ Added (recordIn (now (rec .entry)) .run) (now (w .entry)) state (now (w .exit)) r ⌝ }
 {
-    let room = state.room;
-    let mid = room.mid;
+    let bounds = state.bounds;
+    let mid = bounds.mid;
     if overflows(&w[..mid], rec) {
         return Tried::Refused(OVERFLOW);
     }
-    with_room(state, advance(w, b, room, rec))
+    with_bounds(state, advance(w, b, bounds, rec))
 }

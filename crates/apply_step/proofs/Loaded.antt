@@ -11,17 +11,17 @@ use Rattle.laws_image.specs.Exact.{image-fits}
 use Rattle.laws_apply.specs.MovedFits.{fits-holds}
 use Rattle.find.proofs.Ends.{used-high}
 use Rattle.apply_work.specs.Work.{groupsIn, Good, heldIn, stateIn}
-use Rattle.apply_work.specs.declared.Room.{Room}
+use Rattle.apply_work.specs.declared.Bounds.{Bounds}
 use Rattle.apply_step.specs.Step.{Holding}
 
-module _ (image : Bytes) (are : AreBytes image) (is : isImage image ≡ true) (w : Bytes) (room : Room) (epoch kraft : ℕ)
-    (load : Good w room × (heldIn w room ≡ contentsOf image .real) × (groupsIn w room ≡ contentsOf image .empties) × (room .used + headSize ≡ usedIn image))
+module _ (image : Bytes) (are : AreBytes image) (is : isImage image ≡ true) (w : Bytes) (bounds : Bounds) (epoch kraft : ℕ)
+    (load : Good w bounds × (heldIn w bounds ≡ contentsOf image .real) × (groupsIn w bounds ≡ contentsOf image .empties) × (bounds .used + headSize ≡ usedIn image))
     (ee : epoch ≡ fixedIn image .epoch) (ek : kraft ≡ fixedIn image .kraft) where
-  pub state-loaded : stateIn w (record { room = room; epoch = epoch; kraft = kraft }) ≡ contentsOf image
+  pub state-loaded : stateIn w (record { bounds = bounds; epoch = epoch; kraft = kraft }) ≡ contentsOf image
   unfolding contentsOf
   state-loaded = rw (load .1, load .2, ee, ek) refl
 
-  pub holding-loaded : Holding w (record { room = room; epoch = epoch; kraft = kraft }) (length image)
+  pub holding-loaded : Holding w (record { bounds = bounds; epoch = epoch; kraft = kraft }) (length image)
   holding-loaded =
       let fits = image-fits image are is in
       record {

@@ -20,8 +20,8 @@ use Rattle.laws_image.specs.Tests.{capacity-most}
 use Rattle.laws_restore.specs.Weight.{partitions-total}
 use Rattle.laws_apply.specs.Moves.{Holds}
 use Rattle.laws_apply.specs.MovedFits.{moved-holds}
-use Rattle.judge.specs.Judge.{IsLogged, loggedIn}
-use Rattle.judge.proofs.Logged.{run-in, passes}
+use Rattle.find.specs.Logged.{IsLogged, loggedIn}
+use Rattle.find.proofs.Logged.{run-in, passes}
 use Rattle.apply_patches.specs.Patches.{CountFits}
 use Rattle.apply_work.specs.Work.{heldIn, contentsIn, fixedParts, stateIn, mostRecord}
 use Rattle.apply_work.specs.declared.State.{State}
@@ -36,14 +36,14 @@ module _ (w : Bytes) (s : State) (capacity : ℕ) (h : Holding w s capacity) whe
   pub capacity-fits : capacity ≤ mostCapacity
   capacity-fits = capacity-most capacity (h .within)
 
-  pub space : length w ≡ workRoom → s .room .used + 3 * mostRecord ≤ length w
+  pub space : length w ≡ workRoom → s .bounds .used + 3 * mostRecord ≤ length w
   space e = omega (arith, e, h .fits, capacity-fits)
 
   -- a topic's count is at most its partitions' number, which is at most what they weigh
-  count-fits : (e : Entry) → In e (heldIn w (s .room)) → CountFits e
+  count-fits : (e : Entry) → In e (heldIn w (s .bounds)) → CountFits e
   unfolding weight countOf key
   count-fits (topic name id count factor named) i =
-      let l = heldIn w (s .room) in
+      let l = heldIn w (s .bounds) in
       let e = topic name id count factor named in
       let few : count ≤ partitions name l = rw (in-get key l (h .holds .ascends) e i) at (h .holds .topics .counts name) in
       let light = h .light in
@@ -51,8 +51,8 @@ module _ (w : Bytes) (s : State) (capacity : ℕ) (h : Holding w s capacity) whe
   count-fits (part r) i = tt
   count-fits (plain r) i = tt
 
-  pub counts-fit : All CountFits (heldIn w (s .room))
-  counts-fit = all-in CountFits (heldIn w (s .room)) count-fits
+  pub counts-fit : All CountFits (heldIn w (s .bounds))
+  counts-fit = all-in CountFits (heldIn w (s .bounds)) count-fits
 
 -- 2. After them
 
@@ -74,17 +74,17 @@ module _ (w v : Bytes) (s t : State) (capacity : ℕ) (h : Holding w s capacity)
   state-after : stateIn v t ≡ moved (loggedIn rec) (stateIn w s)
   unfolding moved
   state-after =
-      ap (contentsIn v (t .room)) (made .2)
+      ap (contentsIn v (t .bounds)) (made .2)
       ∙ rw (made .1 .real (fixedParts s), made .1 .empties (fixedParts s)) refl
 
   held-after : Holds (moved (loggedIn rec) (stateIn w s))
   held-after = moved-holds (stateIn w s) (loggedIn rec) record-passes record-fields (h .holds)
 
-  pub ascends-after : Asc key (heldIn v (t .room))
+  pub ascends-after : Asc key (heldIn v (t .bounds))
   ascends-after = subst (λ (x : Contents). Asc key (x .real)) (sym state-after) (held-after .ascends)
 
   -- the outcomes
-  module _ {b : Bool} (e : (f : Fixed) → b ≡ leb (weight (contentsIn v (t .room) f)) capacity) where
+  module _ {b : Bool} (e : (f : Fixed) → b ≡ leb (weight (contentsIn v (t .bounds) f)) capacity) where
     weighed : b ≡ leb (weight (moved (loggedIn rec) (stateIn w s))) capacity
     weighed = e (fixedParts t) ∙ ap (λ x. leb (weight x) capacity) state-after
 
@@ -106,5 +106,5 @@ module _ (w v : Bytes) (s t : State) (capacity : ℕ) (h : Holding w s capacity)
         holds = subst Holds (sym state-after) held-after;
         within = h .within;
         light = light-after;
-        fits = omega (arith, used-light v (t .room) are (made .1 .good) (fixedParts t) ascends-after, light-after);
+        fits = omega (arith, used-light v (t .bounds) are (made .1 .good) (fixedParts t) ascends-after, light-after);
       }

@@ -1,6 +1,6 @@
 // A record's moves on a work array, or a refusal. The image itself is not changed.
 use apply_plan::make;
-use apply_work::Room;
+use apply_work::Bounds;
 use apply_work::State;
 use apply_work::Tried;
 use apply_work::load;
@@ -9,6 +9,7 @@ use header::kraft_in;
 use image::FIXED_ROOM;
 use image::PRODUCER_SIZE;
 use image::has_producer_ids;
+use model::refusals::FULL;
 ghost use mathlib.Core.Path.{_≡_};
 ghost use mathlib.Core.Bool.{true};
 ghost use Prim.Native.Nat.{_≤_};
@@ -17,21 +18,18 @@ ghost use Rattle.model.specs.Contents.{key};
 ghost use Rattle.model.specs.Image.{isImage, contentsOf};
 ghost use Rattle.model.specs.Apply.{apply as applied};
 ghost use Rattle.laws.specs.Map.{Asc};
-ghost use Rattle.judge.specs.Judge.{IsLogged, loggedIn};
+ghost use Rattle.find.specs.Logged.{IsLogged, loggedIn};
 ghost use Rattle.apply_drafts.specs.Drafts.{draftRoom};
 ghost use Rattle.apply_work.specs.Work.{Good, heldIn, stateIn};
 ghost use Rattle.apply_step.specs.Step.{workRoom, Holding, IsLight, outcome, StillHolding};
 
-// The refusal where there is no room.
-const FULL: u8 = 18;
-
 // Whether the contents of a work array, with any fixed parts, weigh no more than a capacity.
-fn is_light(w: &[u8], room: Room, capacity: usize) -> bool
-    requires { ⌜ Good (now w) room × Asc key (heldIn (now w) room) × (capacity ≤ 65536) × (length (now w) ≡ workRoom) ⌝ }
-    ensures { λ r. ⌜ IsLight (now (w .entry)) room capacity r ⌝ }
+fn is_light(w: &[u8], bounds: Bounds, capacity: usize) -> bool
+    requires { ⌜ Good (now w) bounds × Asc key (heldIn (now w) bounds) × (capacity ≤ 65536) × (length (now w) ≡ workRoom) ⌝ }
+    ensures { λ r. ⌜ IsLight (now (w .entry)) bounds capacity r ⌝ }
 {
-    let mid = room.mid;
-    let size = FIXED_ROOM + room.used;
+    let mid = bounds.mid;
+    let size = FIXED_ROOM + bounds.used;
     if has_producer_ids(&w[..mid]) {
         return size <= capacity + PRODUCER_SIZE;
     }
@@ -53,7 +51,7 @@ pub fn step(
     match make(w, a, b, state, rec) {
         Tried::Refused(number) => Tried::Refused(number),
         Tried::Moved(next) => {
-            if !is_light(w, next.room, capacity) {
+            if !is_light(w, next.bounds, capacity) {
                 return Tried::Refused(FULL);
             }
             Tried::Moved(next)
@@ -66,9 +64,9 @@ pub fn try_in(w: &mut [u8], a: &mut [u8], b: &mut [u8], image: &[u8], rec: &[u8]
     requires { ⌜ (isImage (now image) ≡ true) × IsLogged (now rec) × (length (now w) ≡ workRoom) × (draftRoom ≤ length (now a)) × (draftRoom ≤ length (now b)) ⌝ }
     ensures { λ r. ⌜ (outcome (now (w .exit)) r ≡ applied (length (now (image .entry))) (loggedIn (now (rec .entry))) (contentsOf (now (image .entry)))) × StillHolding (now (w .exit)) (length (now (image .entry))) r ⌝ }
 {
-    let room = load(w, image);
+    let bounds = load(w, image);
     let state = State {
-        room,
+        bounds,
         epoch: epoch_in(image),
         kraft: kraft_in(image),
     };

@@ -19,8 +19,7 @@ use Rattle.model.specs.Key.{keyOf, topicKey}
 use Rattle.model.specs.Map.{put, get, keep}
 use Rattle.model.specs.Contents.{Entry, topic, part, plain, flagBytes, kept, key, recordKey}
 use Rattle.model.specs.Image.{entryOf}
-use Rattle.model.specs.Move.{unname, unnameOld, countOf, tell, isNew, replicas, nodeCount, apartFrom, plan}
-use Rattle.model.specs.Move.{topicM, partM, deleteM, onReal, onEmpties}
+use Rattle.model.specs.Move.{clearNamed, clearOldNamed, countOf, countPartition, isNew, replicas, nodeCount, apartFrom, plan, topicM, partM, deleteM, onReal, onEmpties}
 use Rattle.model.specs.declared.Kind.the-variants.{Topic, Partition}
 use Rattle.laws.specs.Numbers.{length-bytes, bytes-number, drop-are-bytes}
 use Rattle.laws_records.specs.Runs.{fields-run}
@@ -41,11 +40,12 @@ use Rattle.entries.proofs.Changes.{record-in, key-in}
 use Rattle.image_entries.proofs.Records.{run-in}
 use Rattle.apply_drafts.specs.Drafts.{spells, IsDraft, Drafted}
 use Rattle.apply_drafts.proofs.Drafts.{held-draft, set-held, set-drafted, passing-drafted}
-use Rattle.judge.specs.Judge.{IsLogged, loggedIn, entriesIn}
-use Rattle.judge.proofs.Logged.{logged-in, passes, kind-is, run-in as judge-run-in}
-use Rattle.judge.proofs.Held.{none-held, is-held}
+use Rattle.find.specs.Logged.{IsLogged, loggedIn}
+use Rattle.entries.specs.Held.{entriesIn}
+use Rattle.find.proofs.Logged.{logged-in, passes, kind-is, run-in as judge-run-in}
+use Rattle.find.proofs.Held.{none-held, is-held}
 use Rattle.apply_work.specs.Work.{realsIn, groupsIn, Good, heldIn, mostRecord, Made}
-use Rattle.apply_work.specs.declared.Room.{Room}
+use Rattle.apply_work.specs.declared.Bounds.{Bounds}
 use Rattle.apply_work.proofs.Entries.{entries-put, entries-keep, part-entry}
 use Rattle.apply_work.proofs.Made.{made-one}
 use Rattle.apply_work.proofs.Proper.{held-proper}
@@ -90,31 +90,31 @@ counts-few e i is q =
     let few = replicas-few (recordIn e .run) (subst (λ k. fault stored k (recordIn e .run) ≡ 0) is (record-passes e i)) in
     omega (arith, q)
 
-module _ (x : Rec) (is : x .kind ≡ Partition) {w u v : Bytes} {room r : Room} where
-  pub part-moved : {name : Bytes} {new count n : ℕ} → name ≡ value 1 (x .run) → new ≡ isNew (get key (recordKey x) (heldIn w room))
+module _ (x : Rec) (is : x .kind ≡ Partition) {w u v : Bytes} {bounds r : Bounds} where
+  pub part-moved : {name : Bytes} {new count n : ℕ} → name ≡ value 1 (x .run) → new ≡ isNew (get key (recordKey x) (heldIn w bounds))
       → count ≡ nodeCount (replicas (x .run)) → n ≤ mostRecord
-      → Good u room × (heldIn u room ≡ map (tell name new count) (heldIn w room)) × (groupsIn u room ≡ groupsIn w room)
-      → Good v r × (realsIn v r ≡ put recordKey x (realsIn u room)) × (groupsIn v r ≡ groupsIn u room) × (r .used ≤ room .used + n)
-      → Made (partM (x .run) ∷ []) w room v r
+      → Good u bounds × (heldIn u bounds ≡ map (countPartition name new count) (heldIn w bounds)) × (groupsIn u bounds ≡ groupsIn w bounds)
+      → Good v r × (realsIn v r ≡ put recordKey x (realsIn u bounds)) × (groupsIn v r ≡ groupsIn u bounds) × (r .used ≤ bounds .used + n)
+      → Made (partM (x .run) ∷ []) w bounds v r
   unfolding onReal onEmpties
   part-moved {name} {new} {count} {n} en ew ec few t p =
-      let l = heldIn w room in
+      let l = heldIn w bounds in
       let known : new ≡ isNew (get key (keyOf Partition (x .run)) l) = ew ∙ ap (λ k. isNew (get key k l)) (part-key x is) in
       made-one (partM (x .run)) (p .0)
-      (ap (map entryOf) (p .1) ∙ entries-put x (realsIn u room) ∙ rw (part-entry x is, t .1, en, known, ec)) (p .2 ∙ t .2) (omega (arith, p .3))
+      (ap (map entryOf) (p .1) ∙ entries-put x (realsIn u bounds) ∙ rw (part-entry x is, t .1, en, known, ec)) (p .2 ∙ t .2) (omega (arith, p .3))
 
 -- 2. A topic's end
 
-module _ (name : Bytes) {w u v : Bytes} {room r : Room} where
+module _ (name : Bytes) {w u v : Bytes} {bounds r : Bounds} where
   pub deleted : {n : Bytes} {count : ℕ} → n ≡ name
-      → Good u room × (heldIn u room ≡ map (unnameOld (get key (topicKey name) (heldIn w room))) (heldIn w room)) × (groupsIn u room ≡ groupsIn w room) ×
-      (count ≡ countOf (get key (topicKey name) (heldIn w room)))
-      → Good v r × (realsIn v r ≡ keep recordKey (apartFrom n) (realsIn u room)) × (groupsIn v r ≡ groupsIn u room) × (r .used ≤ room .used)
-      → Made (deleteM name ∷ []) w room v r
+      → Good u bounds × (heldIn u bounds ≡ map (clearOldNamed (get key (topicKey name) (heldIn w bounds))) (heldIn w bounds)) × (groupsIn u bounds ≡ groupsIn w bounds) ×
+      (count ≡ countOf (get key (topicKey name) (heldIn w bounds)))
+      → Good v r × (realsIn v r ≡ keep recordKey (apartFrom n) (realsIn u bounds)) × (groupsIn v r ≡ groupsIn u bounds) × (r .used ≤ bounds .used)
+      → Made (deleteM name ∷ []) w bounds v r
   unfolding onReal onEmpties
   deleted {n} {count} en t p =
       made-one (deleteM name) (p .0)
-      (ap (map entryOf) (p .1) ∙ entries-keep (apartFrom n) (realsIn u room) ∙ rw (t .1, en)) (p .2 ∙ t .2) (omega (arith, p .3))
+      (ap (map entryOf) (p .1) ∙ entries-keep (apartFrom n) (realsIn u bounds) ∙ rw (t .1, en)) (p .2 ∙ t .2) (omega (arith, p .3))
 
 -- 3. A topic's entry, and its move
 
@@ -166,15 +166,15 @@ module _ (s : Bytes) (i : IsLogged s) (is : kindIn s ≡ 1) where
           ∙ ap (λ y. spells 1 (item 1 (value 1 (runIn s)) (item 2 (value 2 (runIn s)) (item 3 (bytes 4 count) (item 4 y (item 5 (flagBytes true) done)))))) factor
 
 -- a stored count fits its field
-pub count-fits : (w : Bytes) (room : Room) → AreBytes w → Good w room → (name : Bytes) → {n : ℕ} → n ≡ countOf (get key (topicKey name) (heldIn w room)) → n < span 4
+pub count-fits : (w : Bytes) (bounds : Bounds) → AreBytes w → Good w bounds → (name : Bytes) → {n : ℕ} → n ≡ countOf (get key (topicKey name) (heldIn w bounds)) → n < span 4
 unfolding countOf
-count-fits w room are good name e = rw e (go (get key (topicKey name) (heldIn w room)) refl)
+count-fits w bounds are good name e = rw e (go (get key (topicKey name) (heldIn w bounds)) refl)
   where
-    go : (o : Option Entry) → get key (topicKey name) (heldIn w room) ≡ o → countOf o < span 4
+    go : (o : Option Entry) → get key (topicKey name) (heldIn w bounds) ≡ o → countOf o < span 4
     go none q = lit< tt
     go (some (topic n id count factor named)) q =
-        in-all Proper (heldIn w room) (held-proper w room are good) (topic n id count factor named)
-        (get-in key (topicKey name) (heldIn w room) (topic n id count factor named) q .0) .numbers .0
+        in-all Proper (heldIn w bounds) (held-proper w bounds are good) (topic n id count factor named)
+        (get-in key (topicKey name) (heldIn w bounds) (topic n id count factor named) q .0) .numbers .0
     go (some (part r)) q = lit< tt
     go (some (plain r)) q = lit< tt
 
@@ -201,17 +201,17 @@ module _ (s : Bytes) (i : IsLogged s) (is : kindIn s ≡ 1) (are : AreBytes s) (
   pub topic-kept : kept (entryOf (recordIn t)) ≡ recordIn t
   topic-kept = rw (topic-in, topic-back) refl
 
-  module _ (w u₁ u₂ v : Bytes) (room r : Room) where
+  module _ (w u₁ u₂ v : Bytes) (bounds r : Bounds) where
     pub topic-moved : {n id : Bytes} → n ≡ value 1 (runIn s) → id ≡ value 2 (runIn s) → length t ≤ mostRecord
-        → Good u₁ room × (heldIn u₁ room ≡ map (unnameOld (get key (topicKey n) (heldIn w room))) (heldIn w room)) × (groupsIn u₁ room ≡ groupsIn w room) ×
-        (count ≡ countOf (get key (topicKey n) (heldIn w room)))
-        → Good u₂ room × (heldIn u₂ room ≡ map (unname id) (heldIn u₁ room)) × (groupsIn u₂ room ≡ groupsIn u₁ room)
-        → Good v r × (realsIn v r ≡ put recordKey (recordIn t) (realsIn u₂ room)) × (groupsIn v r ≡ groupsIn u₂ room) × (r .used ≤ room .used + length t)
-        → Made (topicM (value 1 (runIn s)) (value 2 (runIn s)) (number (value 4 (runIn s))) ∷ []) w room v r
+        → Good u₁ bounds × (heldIn u₁ bounds ≡ map (clearOldNamed (get key (topicKey n) (heldIn w bounds))) (heldIn w bounds)) × (groupsIn u₁ bounds ≡ groupsIn w bounds) ×
+        (count ≡ countOf (get key (topicKey n) (heldIn w bounds)))
+        → Good u₂ bounds × (heldIn u₂ bounds ≡ map (clearNamed id) (heldIn u₁ bounds)) × (groupsIn u₂ bounds ≡ groupsIn u₁ bounds)
+        → Good v r × (realsIn v r ≡ put recordKey (recordIn t) (realsIn u₂ bounds)) × (groupsIn v r ≡ groupsIn u₂ bounds) × (r .used ≤ bounds .used + length t)
+        → Made (topicM (value 1 (runIn s)) (value 2 (runIn s)) (number (value 4 (runIn s))) ∷ []) w bounds v r
     unfolding onReal onEmpties
     topic-moved {n} {id} en ei few a b p =
-        let l = heldIn w room in
+        let l = heldIn w bounds in
         let entry : entryOf (recordIn t) ≡ topic (value 1 (runIn s)) (value 2 (runIn s)) (countOf (get key (topicKey n) l)) (number (value 4 (runIn s))) true =
         ap entryOf topic-in ∙ topic-back ∙ ap (λ k. topic (value 1 (runIn s)) (value 2 (runIn s)) k (number (value 4 (runIn s))) true) (a .3) in
         made-one (topicM (value 1 (runIn s)) (value 2 (runIn s)) (number (value 4 (runIn s)))) (p .0)
-        (ap (map entryOf) (p .1) ∙ entries-put (recordIn t) (realsIn u₂ room) ∙ rw (entry, b .1, a .1, en, ei)) (p .2 ∙ b .2 ∙ a .2) (omega (arith, p .3))
+        (ap (map entryOf) (p .1) ∙ entries-put (recordIn t) (realsIn u₂ bounds) ∙ rw (entry, b .1, a .1, en, ei)) (p .2 ∙ b .2 ∙ a .2) (omega (arith, p .3))

@@ -15,7 +15,7 @@ use Rattle.model.specs.Shape.{rowsOf, shapeOf}
 use Rattle.model.specs.Key.{rank, keyOf, keyRank, topicKey}
 use Rattle.model.specs.Map.{get}
 use Rattle.model.specs.Contents.{Entry, topic, part, plain, key}
-use Rattle.model.specs.Move.{unname, unnameOld, countOf}
+use Rattle.model.specs.Move.{clearNamed, clearOldNamed, countOf}
 use Rattle.model.specs.declared.Kind.the-variants.{Topic}
 use Rattle.laws.specs.Choice.{impossible}
 use Rattle.laws.specs.Lists.{map-same, all-any}
@@ -24,11 +24,11 @@ use Rattle.keys.proofs.Found.{lent-slice}
 use Rattle.entries.specs.Entries.{Entries, Placed, IsRecord, recordIn}
 use Rattle.image_entries.proofs.Records.{headed, run-in, kind-in, value-is}
 use Rattle.find.specs.Found.{queryKey}
-use Rattle.judge.specs.Judge.{entriesIn}
-use Rattle.judge.proofs.Queries.{topic-key}
-use Rattle.judge.proofs.Held.{Held, held, none-held}
+use Rattle.entries.specs.Held.{entriesIn}
+use Rattle.find.proofs.Queries.{topic-key}
+use Rattle.find.proofs.Held.{Held, held, none-held}
 use Rattle.apply_work.specs.Work.{groupsIn, Good, heldIn}
-use Rattle.apply_work.specs.declared.Room.{Room}
+use Rattle.apply_work.specs.declared.Bounds.{Bounds}
 use Rattle.apply_work.proofs.Entries.{topic-entry}
 use Rattle.apply_topics.specs.Old.{OldIs}
 use Rattle.apply_topics.specs.declared.old.Old.{Old}
@@ -97,37 +97,37 @@ copied v e {x} tag start end h n said =
 
 -- no topic is stored
 pub none-old : (o : Option Entry) (old : Old) (i : Bytes) → OldIs o old i → old .there ≡ false → (l : List Entry)
-    → (l ≡ map (unnameOld o) l) × (old .count ≡ countOf o)
-unfolding unnameOld countOf
-none-old none old i h t l = (sym (map-same (unnameOld none) l (all-any (λ e. unnameOld none e ≡ e) (λ e. refl) l)), h .1)
+    → (l ≡ map (clearOldNamed o) l) × (old .count ≡ countOf o)
+unfolding clearOldNamed countOf
+none-old none old i h t l = (sym (map-same (clearOldNamed none) l (all-any (λ e. clearOldNamed none e ≡ e) (λ e. refl) l)), h .1)
 none-old (some (topic name id count factor named)) old i h t l = let e = sym (h .0) ∙ t in impossible cc
 none-old (some (part r)) old i h t l = absurd h
 none-old (some (plain r)) old i h t l = absurd h
 
 pub some-old : (o : Option Entry) (old : Old) (i : Bytes) → OldIs o old i → old .there ≡ true → (l : List Entry)
-    → (map (unname i) l ≡ map (unnameOld o) l) × (old .count ≡ countOf o)
-unfolding unnameOld countOf
+    → (map (clearNamed i) l ≡ map (clearOldNamed o) l) × (old .count ≡ countOf o)
+unfolding clearOldNamed countOf
 some-old none old i h t l = let e = sym (h .0) ∙ t in impossible cc
-some-old (some (topic name id count factor named)) old i h t l = (ap (λ x. map (unname x) l) (h .2), h .1)
+some-old (some (topic name id count factor named)) old i h t l = (ap (λ x. map (clearNamed x) l) (h .2), h .1)
 some-old (some (part r)) old i h t l = absurd h
 some-old (some (plain r)) old i h t l = absurd h
 
 -- the stored topic of a name that is lent, and the work array after its id has lost its name, or as it was
-module _ (w : Bytes) (room : Room) {n name : Bytes} (e : n ≡ name) (old : Old) (i : Bytes) (is : OldIs (get key (topicKey n) (heldIn w room)) old i) where
-  named : OldIs (get key (topicKey name) (heldIn w room)) old i
+module _ (w : Bytes) (bounds : Bounds) {n name : Bytes} (e : n ≡ name) (old : Old) (i : Bytes) (is : OldIs (get key (topicKey n) (heldIn w bounds)) old i) where
+  named : OldIs (get key (topicKey name) (heldIn w bounds)) old i
   named = rw e at is
 
-  pub kept-old : old .there ≡ false → Good w room
-      → Good w room × (heldIn w room ≡ map (unnameOld (get key (topicKey name) (heldIn w room))) (heldIn w room)) × (groupsIn w room ≡ groupsIn w room) ×
-      (old .count ≡ countOf (get key (topicKey name) (heldIn w room)))
+  pub kept-old : old .there ≡ false → Good w bounds
+      → Good w bounds × (heldIn w bounds ≡ map (clearOldNamed (get key (topicKey name) (heldIn w bounds))) (heldIn w bounds)) × (groupsIn w bounds ≡ groupsIn w bounds) ×
+      (old .count ≡ countOf (get key (topicKey name) (heldIn w bounds)))
   kept-old t good =
-      let h = none-old (get key (topicKey name) (heldIn w room)) old i named t (heldIn w room) in
+      let h = none-old (get key (topicKey name) (heldIn w bounds)) old i named t (heldIn w bounds) in
       (good, h .0, refl, h .1)
 
   pub lost-old : old .there ≡ true → {v : Bytes}
-      → Good v room × (heldIn v room ≡ map (unname i) (heldIn w room)) × (groupsIn v room ≡ groupsIn w room)
-      → Good v room × (heldIn v room ≡ map (unnameOld (get key (topicKey name) (heldIn w room))) (heldIn w room)) × (groupsIn v room ≡ groupsIn w room) ×
-      (old .count ≡ countOf (get key (topicKey name) (heldIn w room)))
+      → Good v bounds × (heldIn v bounds ≡ map (clearNamed i) (heldIn w bounds)) × (groupsIn v bounds ≡ groupsIn w bounds)
+      → Good v bounds × (heldIn v bounds ≡ map (clearOldNamed (get key (topicKey name) (heldIn w bounds))) (heldIn w bounds)) × (groupsIn v bounds ≡ groupsIn w bounds) ×
+      (old .count ≡ countOf (get key (topicKey name) (heldIn w bounds)))
   lost-old t p =
-      let h = some-old (get key (topicKey name) (heldIn w room)) old i named t (heldIn w room) in
+      let h = some-old (get key (topicKey name) (heldIn w bounds)) old i named t (heldIn w bounds) in
       (p .0, p .1 ∙ h .0, p .2, h .1)

@@ -3,14 +3,14 @@ mod old;
 
 use apply_drafts::copy_in;
 use apply_drafts::set_field;
-use apply_patches::tell;
-use apply_patches::unname;
-use apply_work::Room;
+use apply_patches::clear_named;
+use apply_patches::count_partition;
+use apply_work::Bounds;
 use apply_work::drop_topic;
 use apply_work::put_real;
 use entries::seek;
 use keys::value_at;
-use old::unname_old;
+use old::clear_old_named;
 ghost use mathlib.Core.Path.{_≡_};
 ghost use mathlib.Core.Bool.{true};
 ghost use mathlib.Core.List.{[], _∷_};
@@ -26,7 +26,8 @@ ghost use Rattle.model.specs.declared.Kind.the-variants.{Partition};
 ghost use Rattle.laws.specs.Lists.{All};
 ghost use Rattle.keys.specs.Keys.{kindIn, runIn};
 ghost use Rattle.entries.specs.Entries.{Entries, IsRecord, recordIn};
-ghost use Rattle.judge.specs.Judge.{IsLogged, entriesIn};
+ghost use Rattle.find.specs.Logged.{IsLogged};
+ghost use Rattle.entries.specs.Held.{entriesIn};
 ghost use Rattle.apply_patches.specs.Patches.{CountFits};
 ghost use Rattle.apply_drafts.specs.Drafts.{draftRoom};
 ghost use Rattle.apply_work.specs.Work.{Good, heldIn, mostRecord, Made};
@@ -44,17 +45,17 @@ fn topic_record(b: &mut [u8], rec: &[u8], count: u64) -> usize
 }
 
 // A topic's name, id and replication factor. The stored count stays; the id names this topic and no other, and the topic's old id names none.
-pub fn put_topic(w: &mut [u8], b: &mut [u8], room: Room, rec: &[u8]) -> Room
-    requires { ⌜ Good (now w) room × IsLogged (now rec) × (kindIn (now rec) ≡ 1) × (room .used + mostRecord ≤ length (now w)) × (draftRoom ≤ length (now b)) ⌝ }
-    ensures { λ r. ⌜ Made (topicM (value 1 (runIn (now (rec .entry)))) (value 2 (runIn (now (rec .entry)))) (number (value 4 (runIn (now (rec .entry))))) ∷ []) (now (w .entry)) room (now (w .exit)) r ⌝ }
+pub fn put_topic(w: &mut [u8], b: &mut [u8], bounds: Bounds, rec: &[u8]) -> Bounds
+    requires { ⌜ Good (now w) bounds × IsLogged (now rec) × (kindIn (now rec) ≡ 1) × (bounds .used + mostRecord ≤ length (now w)) × (draftRoom ≤ length (now b)) ⌝ }
+    ensures { λ r. ⌜ Made (topicM (value 1 (runIn (now (rec .entry)))) (value 2 (runIn (now (rec .entry)))) (number (value 4 (runIn (now (rec .entry))))) ∷ []) (now (w .entry)) bounds (now (w .exit)) r ⌝ }
 {
-    let count = unname_old(w, room, rec);
+    let count = clear_old_named(w, bounds, rec);
     let p = value_at(rec, 2);
     let start = p.start;
     let end = p.end;
-    unname(w, room, &rec[start..end]);
+    clear_named(w, bounds, &rec[start..end]);
     let n = topic_record(b, rec, count);
-    put_real(w, room, &b[..n])
+    put_real(w, bounds, &b[..n])
 }
 
 // 1 where a partition is not stored yet, else 0.
@@ -79,28 +80,28 @@ fn replica_count(rec: &[u8]) -> u64
 }
 
 // A partition's fields. Its topic counts it where it is new, and takes its replicas' number as the replication factor.
-pub fn put_partition(w: &mut [u8], room: Room, rec: &[u8]) -> Room
-    requires { ⌜ Good (now w) room × IsRecord (now rec) × (recordIn (now rec) .kind ≡ Partition) × All CountFits (heldIn (now w) room) × (room .used + mostRecord ≤ length (now w)) ⌝ }
-    ensures { λ r. ⌜ Made (partM (recordIn (now (rec .entry)) .run) ∷ []) (now (w .entry)) room (now (w .exit)) r ⌝ }
+pub fn put_partition(w: &mut [u8], bounds: Bounds, rec: &[u8]) -> Bounds
+    requires { ⌜ Good (now w) bounds × IsRecord (now rec) × (recordIn (now rec) .kind ≡ Partition) × All CountFits (heldIn (now w) bounds) × (bounds .used + mostRecord ≤ length (now w)) ⌝ }
+    ensures { λ r. ⌜ Made (partM (recordIn (now (rec .entry)) .run) ∷ []) (now (w .entry)) bounds (now (w .exit)) r ⌝ }
 {
-    let mid = room.mid;
+    let mid = bounds.mid;
     let new = is_new(&w[..mid], rec);
     let p = value_at(rec, 1);
     let start = p.start;
     let end = p.end;
     let replicas = replica_count(rec);
-    tell(w, room, &rec[start..end], new, replicas);
-    put_real(w, room, rec)
+    count_partition(w, bounds, &rec[start..end], new, replicas);
+    put_real(w, bounds, rec)
 }
 
 // A topic's end: its old id names no topic, and all that stands under its name is taken out.
-pub fn delete_topic(w: &mut [u8], room: Room, rec: &[u8]) -> Room
-    requires { ⌜ Good (now w) room × (3 ≤ length (now rec)) × (length (value 1 (runIn (now rec))) ≤ 255) ⌝ }
-    ensures { λ r. ⌜ Made (deleteM (value 1 (runIn (now (rec .entry)))) ∷ []) (now (w .entry)) room (now (w .exit)) r ⌝ }
+pub fn delete_topic(w: &mut [u8], bounds: Bounds, rec: &[u8]) -> Bounds
+    requires { ⌜ Good (now w) bounds × (3 ≤ length (now rec)) × (length (value 1 (runIn (now rec))) ≤ 255) ⌝ }
+    ensures { λ r. ⌜ Made (deleteM (value 1 (runIn (now (rec .entry)))) ∷ []) (now (w .entry)) bounds (now (w .exit)) r ⌝ }
 {
-    unname_old(w, room, rec);
+    clear_old_named(w, bounds, rec);
     let p = value_at(rec, 1);
     let start = p.start;
     let end = p.end;
-    drop_topic(w, room, &rec[start..end])
+    drop_topic(w, bounds, &rec[start..end])
 }

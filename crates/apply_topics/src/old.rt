@@ -1,9 +1,10 @@
 // The stored topic of a name, before a move changes it.
-use apply_patches::unname;
-use apply_work::Room;
+use apply_patches::clear_named;
+use apply_work::Bounds;
 use find::find;
-use image_entries::number_of;
+use image_entries::value_number;
 use keys::value_at;
+use model::kinds::TOPIC;
 ghost use mathlib.Core.Path.{_≡_};
 ghost use mathlib.Core.List.{map};
 ghost use Prim.Native.Nat.{_≤_};
@@ -12,15 +13,12 @@ ghost use Rattle.model.specs.Run.{value};
 ghost use Rattle.model.specs.Key.{topicKey};
 ghost use Rattle.model.specs.Map.{get};
 ghost use Rattle.model.specs.Contents.{key};
-ghost use Rattle.model.specs.Move.{unnameOld, countOf};
+ghost use Rattle.model.specs.Move.{clearOldNamed, countOf};
 ghost use Rattle.keys.specs.Keys.{runIn};
 ghost use Rattle.entries.specs.Entries.{Entries};
-ghost use Rattle.judge.specs.Judge.{entriesIn};
+ghost use Rattle.entries.specs.Held.{entriesIn};
 ghost use Rattle.apply_work.specs.Work.{groupsIn, Good, heldIn};
 ghost use Rattle.apply_topics.specs.Old.{OldIs};
-
-// The kind of a topic.
-const TOPIC: u8 = 1;
 
 // Its count, 0 where there is none, and whether there is one.
 pub struct Old {
@@ -55,24 +53,24 @@ fn old_topic(s: &[u8], name: &[u8], id: &mut [u8]) -> Old
     }
     copy_value(id, &s[at..end], 2);
     Old {
-        count: number_of(&s[at..end], 3, 4),
+        count: value_number(&s[at..end], 3, 4),
         there: true,
     }
 }
 
 // The id of the stored topic that a record's first field names is not its name any more. The topic's count, 0 where there is none.
-pub fn unname_old(w: &mut [u8], room: Room, rec: &[u8]) -> u64
-    requires { ⌜ Good (now w) room × (3 ≤ length (now rec)) × (length (value 1 (runIn (now rec))) ≤ 255) ⌝ }
-    ensures { λ r. ⌜ Good (now (w .exit)) room × (heldIn (now (w .exit)) room ≡ map (unnameOld (get key (topicKey (value 1 (runIn (now (rec .entry))))) (heldIn (now (w .entry)) room))) (heldIn (now (w .entry)) room)) × (groupsIn (now (w .exit)) room ≡ groupsIn (now (w .entry)) room) × (r ≡ countOf (get key (topicKey (value 1 (runIn (now (rec .entry))))) (heldIn (now (w .entry)) room))) ⌝ }
+pub fn clear_old_named(w: &mut [u8], bounds: Bounds, rec: &[u8]) -> u64
+    requires { ⌜ Good (now w) bounds × (3 ≤ length (now rec)) × (length (value 1 (runIn (now rec))) ≤ 255) ⌝ }
+    ensures { λ r. ⌜ Good (now (w .exit)) bounds × (heldIn (now (w .exit)) bounds ≡ map (clearOldNamed (get key (topicKey (value 1 (runIn (now (rec .entry))))) (heldIn (now (w .entry)) bounds))) (heldIn (now (w .entry)) bounds)) × (groupsIn (now (w .exit)) bounds ≡ groupsIn (now (w .entry)) bounds) × (r ≡ countOf (get key (topicKey (value 1 (runIn (now (rec .entry))))) (heldIn (now (w .entry)) bounds))) ⌝ }
 {
     let mut id = [0; 16];
-    let mid = room.mid;
+    let mid = bounds.mid;
     let p = value_at(rec, 1);
     let start = p.start;
     let end = p.end;
     let old = old_topic(&w[..mid], &rec[start..end], &mut id);
     if old.there {
-        unname(w, room, &id);
+        clear_named(w, bounds, &id);
     }
     old.count
 }

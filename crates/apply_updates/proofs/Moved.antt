@@ -25,7 +25,7 @@ use Rattle.keys.specs.Keys.{runIn}
 use Rattle.entries.specs.Entries.{IsRecord, recordIn}
 use Rattle.entries.proofs.Changes.{record-in}
 use Rattle.apply_work.specs.Work.{Good, Made}
-use Rattle.apply_work.specs.declared.Room.{Room}
+use Rattle.apply_work.specs.declared.Bounds.{Bounds}
 use Rattle.apply_work.proofs.Made.{made-none, made-then}
 use Rattle.apply_moves.specs.Moves.{IsPlain}
 use Rattle.apply_moves.proofs.Singles.{setMove}
@@ -46,19 +46,19 @@ there (some v) e = refl
 
 -- 2. No move
 
-module _ {w : Bytes} {room : Room} (good : Good w room) (r : Run) where
-  still : {ms : List Move} → ms ≡ [] → Made ms w room w room
-  still e = subst (λ ms. Made ms w room w room) (sym e) (made-none good)
+module _ {w : Bytes} {bounds : Bounds} (good : Good w bounds) (r : Run) where
+  still : {ms : List Move} → ms ≡ [] → Made ms w bounds w bounds
+  still e = subst (λ ms. Made ms w bounds w bounds) (sym e) (made-none good)
 
   module _ {a : Bool} (ea : a ≡ isSome (field 2 r)) where
-    pub no-eligible : not a ≡ true → Made (elrMoves r) w room w room
+    pub no-eligible : not a ≡ true → Made (elrMoves r) w bounds w bounds
     no-eligible h = still (ap (λ t. cond (t && isSome (field 3 r)) (elrMove (updatedElr r) ∷ []) []) (sym ea ∙ not-true a h))
 
-    pub no-known : not a ≡ false → {b : Bool} → b ≡ isSome (field 3 r) → not b ≡ true → Made (elrMoves r) w room w room
+    pub no-known : not a ≡ false → {b : Bool} → b ≡ isSome (field 3 r) → not b ≡ true → Made (elrMoves r) w bounds w bounds
     no-known h {b} eb k =
         still (ap₂ (λ t x. cond (t && x) (elrMove (updatedElr r) ∷ []) []) (sym ea ∙ not-false a h) (sym eb ∙ not-true b k))
 
-  pub no-recovery : {a : Bool} → a ≡ isSome (field 4 r) → not a ≡ true → Made (recoveryMoves r) w room w room
+  pub no-recovery : {a : Bool} → a ≡ isSome (field 4 r) → not a ≡ true → Made (recoveryMoves r) w bounds w bounds
   no-recovery {a} ea h = still (ap (λ t. cond t (recoveryMove (updatedRecovery r) ∷ []) []) (sym ea ∙ not-true a h))
 
 -- 3. The records
@@ -103,23 +103,23 @@ module _ (r : Run) {x : Rec} where
   unfolding kindNumber
   recovery-plain e = rw e (record { no-topic = refl; no-partition = refl })
 
-  module _ {w v : Bytes} {room q : Room} (m : Made (setMove x ∷ []) w room v q) where
+  module _ {w v : Bytes} {bounds q : Bounds} (m : Made (setMove x ∷ []) w bounds v q) where
     pub elr-made : x ≡ updatedElr r → {a b : Bool} → a ≡ isSome (field 2 r) → not a ≡ false → b ≡ isSome (field 3 r) → not b ≡ false
-        → Made (elrMoves r) w room v q
+        → Made (elrMoves r) w bounds v q
     unfolding storable
     elr-made e {a} {b} ea ha eb hb =
-        let made : Made (elrMove (updatedElr r) ∷ []) w room v q = subst (λ y. Made (setMove y ∷ []) w room v q) e m in
+        let made : Made (elrMove (updatedElr r) ∷ []) w bounds v q = subst (λ y. Made (setMove y ∷ []) w bounds v q) e m in
         let both : elrMove (updatedElr r) ∷ [] ≡ elrMoves r =
         ap₂ (λ y z. cond (y && z) (elrMove (updatedElr r) ∷ []) []) (sym (not-false a ha) ∙ ea) (sym (not-false b hb) ∙ eb) in
-        subst (λ ms. Made ms w room v q) both made
+        subst (λ ms. Made ms w bounds v q) both made
 
-    pub recovery-made : x ≡ updatedRecovery r → {a : Bool} → a ≡ isSome (field 4 r) → not a ≡ false → Made (recoveryMoves r) w room v q
+    pub recovery-made : x ≡ updatedRecovery r → {a : Bool} → a ≡ isSome (field 4 r) → not a ≡ false → Made (recoveryMoves r) w bounds v q
     unfolding storable
     recovery-made e {a} ea ha =
-        let made : Made (recoveryMove (updatedRecovery r) ∷ []) w room v q = subst (λ y. Made (setMove y ∷ []) w room v q) e m in
+        let made : Made (recoveryMove (updatedRecovery r) ∷ []) w bounds v q = subst (λ y. Made (setMove y ∷ []) w bounds v q) e m in
         let one : recoveryMove (updatedRecovery r) ∷ [] ≡ recoveryMoves r =
         ap (λ y. cond y (recoveryMove (updatedRecovery r) ∷ []) []) (sym (not-false a ha) ∙ ea) in
-        subst (λ ms. Made ms w room v q) one made
+        subst (λ ms. Made ms w bounds v q) one made
 
 -- 5. All moves
 
@@ -151,9 +151,9 @@ elr-one r = go (isSome (field 2 r) && isSome (field 3 r))
     go true = omega arith
     go false = omega arith
 
-pub updated : (r : Run) {w v x y : Bytes} {room p q z : Room} {t : Rec} → t ≡ partitionRec r → Made (partM (t .run) ∷ []) w room v p
-    → Made (elrMoves r) v p x q → Made (recoveryMoves r) x q y z → Made (updateMoves r) w room y z
-updated r {w} {v} {x} {y} {room} {p} {q} {z} e a b c =
-    let part : Made (partM (partitionOf r) ∷ []) w room v p = subst (λ k. Made (partM (k .run) ∷ []) w room v p) e a in
-    subst (λ ms. Made ms w room y z) (sym (moves-are r))
+pub updated : (r : Run) {w v x y : Bytes} {bounds p q z : Bounds} {t : Rec} → t ≡ partitionRec r → Made (partM (t .run) ∷ []) w bounds v p
+    → Made (elrMoves r) v p x q → Made (recoveryMoves r) x q y z → Made (updateMoves r) w bounds y z
+updated r {w} {v} {x} {y} {bounds} {p} {q} {z} e a b c =
+    let part : Made (partM (partitionOf r) ∷ []) w bounds v p = subst (λ k. Made (partM (k .run) ∷ []) w bounds v p) e a in
+    subst (λ ms. Made ms w bounds y z) (sym (moves-are r))
     (made-then ((partM (partitionOf r) ∷ []) ++ elrMoves r) (recoveryMoves r) (made-then (partM (partitionOf r) ∷ []) (elrMoves r) part b) c)

@@ -22,9 +22,9 @@ use Rattle.keys.proofs.Found.{part-length}
 use Rattle.entries.specs.Entries.{recordIn}
 use Rattle.entries.proofs.Changes.{record-in}
 use Rattle.image_entries.proofs.Records.{headed, run-in}
-use Rattle.records.specs.Answers.{written, head}
+use Rattle.records.specs.Answers.{putAt, head}
 use Rattle.apply_drafts.specs.Drafts.{spells, draftRoom}
-use Rattle.apply_drafts.proofs.Fronts.{written-front}
+use Rattle.apply_drafts.proofs.Fronts.{put-at-front}
 use Rattle.apply_updates.specs.Updates.{IsUpdate, partitionOf, namedOf, partitionRec, updatedElr, updatedRecovery}
 use Rattle.apply_updates.proofs.Drafting.{Stands, lent, Upto}
 
@@ -93,7 +93,7 @@ module _ (s : Bytes) (u : IsUpdate s) where
     partition-fits b big = omega (arith, lent-long, partition-short)
 
     pub partition-written : AreBytes s → (b c : Bytes)
-        → c ≡ written b 0 (head 2 (length (take (end - start) (drop start s))) ++ take (end - start) (drop start s))
+        → c ≡ putAt b 0 (head 2 (length (take (end - start) (drop start s))) ++ take (end - start) (drop start s))
         → (take (3 + (end - start)) c ≡ recordBytes (partitionRec (runIn s))) × (3 + (end - start) ≤ draftRoom)
     unfolding recordBytes kindNumber
     partition-written areBytes b c e =
@@ -102,8 +102,8 @@ module _ (s : Bytes) (u : IsUpdate s) where
         let long : end ≡ start + length v = part-length s start end v (h .1) (h .2) (h .0) in
         let size : 3 + (end - start) ≡ length x = omega arith in
         let same : bytesOf (runOf v) ≡ v = bytes-run v (value-are-bytes 1 (runIn s) (fields-run (drop 3 s) (drop-are-bytes 3 s areBytes))) partition-whole in
-        let put : c ≡ written b 0 x = e ∙ ap (λ y. written b 0 (head 2 (length y) ++ y)) (lent s v start end h) in (
-          ap (λ n. take n c) size ∙ written-front b x put ∙ ap (λ y. head 2 (length y) ++ y) (sym same),
+        let put : c ≡ putAt b 0 x = e ∙ ap (λ y. putAt b 0 (head 2 (length y) ++ y)) (lent s v start end h) in (
+          ap (λ n. take n c) size ∙ put-at-front b x put ∙ ap (λ y. head 2 (length y) ++ y) (sym same),
           omega (arith, partition-short, long),
         )
 

@@ -5,6 +5,9 @@ use fields::Cursor;
 use fields::Found;
 use keys::Part;
 use keys::value_at;
+use model::kinds::PARTITION;
+use model::kinds::PARTITION_ELR;
+use model::kinds::PARTITION_RECOVERY;
 use reader::field;
 ghost use mathlib.Core.Path.{_≡_};
 ghost use Prim.Native.Nat.{_+_, _<_, _≤_};
@@ -15,13 +18,6 @@ ghost use Rattle.model.specs.Record.{recordBytes};
 ghost use Rattle.keys.specs.Keys.{kindIn, runIn};
 ghost use Rattle.apply_drafts.specs.Drafts.{spells, IsDraft, draftRoom};
 ghost use Rattle.apply_updates.specs.Updates.{IsUpdate, partitionOf, namedOf, partitionRec, updatedElr, updatedRecovery};
-
-// The kinds of the records.
-const PARTITION: u8 = 2;
-
-const ELR: u8 = 21;
-
-const RECOVERY: u8 = 22;
 
 // Writes the record of an update's partition. Its length.
 pub fn partition_record(b: &mut [u8], rec: &[u8]) -> usize
@@ -81,12 +77,12 @@ fn copy_field(b: &mut [u8], n: usize, tag: u8, rec: &[u8], from: usize) -> usize
     set_field(b, n, tag, &rec[start..end])
 }
 
-// Writes the record of an update's ELR. Its length.
+// Writes the record of an update's PARTITION_ELR. Its length.
 pub fn elr_record(b: &mut [u8], rec: &[u8]) -> usize
     requires { ⌜ IsUpdate (now rec) × (draftRoom ≤ length (now b)) ⌝ }
     ensures { λ r. ⌜ (take r (now (b .exit)) ≡ recordBytes (updatedElr (runIn (now (rec .entry))))) × (r ≤ draftRoom) ⌝ }
 {
-    let n = begin_named(b, ELR, rec);
+    let n = begin_named(b, PARTITION_ELR, rec);
     let m = copy_field(b, n, 3, rec, 2);
     copy_field(b, m, 4, rec, 3)
 }
@@ -96,6 +92,6 @@ pub fn recovery_record(b: &mut [u8], rec: &[u8]) -> usize
     requires { ⌜ IsUpdate (now rec) × (draftRoom ≤ length (now b)) ⌝ }
     ensures { λ r. ⌜ (take r (now (b .exit)) ≡ recordBytes (updatedRecovery (runIn (now (rec .entry))))) × (r ≤ draftRoom) ⌝ }
 {
-    let n = begin_named(b, RECOVERY, rec);
+    let n = begin_named(b, PARTITION_RECOVERY, rec);
     copy_field(b, n, 3, rec, 4)
 }

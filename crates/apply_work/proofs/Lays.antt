@@ -16,33 +16,33 @@ use Rattle.laws.specs.Lists.{map-same, map-map, joined-append}
 use Rattle.laws_image.specs.Image.{entry-bytes}
 use Rattle.entries.proofs.Seeks.{entries-spelt}
 use Rattle.apply_work.specs.Work.{realsIn, groupsIn, Good, contentsIn}
-use Rattle.apply_work.specs.declared.Room.{Room}
+use Rattle.apply_work.specs.declared.Bounds.{Bounds}
 
-module _ {w : Bytes} {room : Room} (are : AreBytes w) (good : Good w room) where
+module _ {w : Bytes} {bounds : Bounds} (are : AreBytes w) (good : Good w bounds) where
   -- the used bytes, and where they end in the image
   abbrev entries : Bytes
-  entries = take (room .used) w
+  entries = take (bounds .used) w
 
   abbrev end : ℕ
-  end = headSize + room .used
+  end = headSize + bounds .used
 
   -- they are the entries'
-  pub entries-used : (f : Fixed) → entryBytes (contentsIn w room f) ≡ entries
+  pub entries-used : (f : Fixed) → entryBytes (contentsIn w bounds f) ≡ entries
   entries-used f =
-      let reals = realsIn w room in
-      let groups = groupsIn w room in
+      let reals = realsIn w bounds in
+      let groups = groupsIn w bounds in
       let back : map kept (map entryOf reals) ≡ reals = map-map kept entryOf reals ∙ map-same (λ r. kept (entryOf r)) reals (good .keeps) in
-      entry-bytes (contentsIn w room f)
+      entry-bytes (contentsIn w bounds f)
       ∙ ap (λ l. joined recordBytes (l ++ groups)) back
       ∙ joined-append recordBytes reals groups
       ∙ ap₂ (λ a b. a ++ b)
-      (entries-spelt (take (room .mid) w) (take-are-bytes (room .mid) w are) (good .reals)
-      ∙ sym (take-take (room .mid) (room .used) w (good .order)))
-      (entries-spelt (slice (room .mid) (room .used) w) (slice-are-bytes (room .mid) (room .used) w are) (good .groups))
-      ∙ take-append-drop (room .mid) entries
+      (entries-spelt (take (bounds .mid) w) (take-are-bytes (bounds .mid) w are) (good .reals)
+      ∙ sym (take-take (bounds .mid) (bounds .used) w (good .order)))
+      (entries-spelt (slice (bounds .mid) (bounds .used) w) (slice-are-bytes (bounds .mid) (bounds .used) w are) (good .groups))
+      ∙ take-append-drop (bounds .mid) entries
 
-  pub used-whole : room .used ≡ length entries
-  used-whole = sym (length-take-le (room .used) w (good .fits))
+  pub used-whole : bounds .used ≡ length entries
+  used-whole = sym (length-take-le (bounds .used) w (good .fits))
 
   module _ (b : Bytes) (fits : end ≤ length b) where
     -- the entries are copied in, and what comes after them is cleared
@@ -69,10 +69,10 @@ module _ {w : Bytes} {room : Room} (are : AreBytes w) (good : Good w room) where
 
         -- the header is written
         pub laid : {u : Bytes} (f : Fixed) → u ≡ header end f ++ drop headSize (putMid end (length v - end) v x)
-            → u ≡ imageOf (length b) (contentsIn w room f)
+            → u ≡ imageOf (length b) (contentsIn w bounds f)
         unfolding imageOf
         laid f headed =
-            let far : headSize + length (entryBytes (contentsIn w room f)) ≡ end =
+            let far : headSize + length (entryBytes (contentsIn w bounds f)) ≡ end =
             ap (λ s. headSize + length s) (entries-used f)
             ∙ ap (λ n. headSize + n) (sym used-whole) in
             headed

@@ -15,7 +15,7 @@ use Rattle.image_entries.specs.Stored.{Parted}
 use Rattle.find.specs.Reals.{Reals}
 use Rattle.find.proofs.Ends.{empties-held, used-low, used-high, reals-end}
 use Rattle.apply_work.specs.Work.{realsIn, groupsIn, Good}
-use Rattle.apply_work.specs.declared.Room.{Room}
+use Rattle.apply_work.specs.declared.Bounds.{Bounds}
 
 module _ (b : Bytes) (areBytes : AreBytes b) (is : isImage b ≡ true) {used : ℕ} (eu : used ≡ usedIn b) where
   -- the entries, as they are lent
@@ -31,12 +31,12 @@ module _ (b : Bytes) (areBytes : AreBytes b) (is : isImage b ≡ true) {used : �
   long : length lent ≡ used - headSize
   long = ap length whole ∙ length-slice headSize used b (used-high b areBytes is eu)
 
-  pub room-fits : (w : Bytes) → length b ≤ length w → 0 + length lent ≤ length w
-  room-fits w h = omega (arith, long, used-high b areBytes is eu)
+  pub bounds-fits : (w : Bytes) → length b ≤ length w → 0 + length lent ≤ length w
+  bounds-fits w h = omega (arith, long, used-high b areBytes is eu)
 
   module _ (w v : Bytes) (mid : ℕ) (p : Parted lent mid) (e : v ≡ take 0 w ++ lent ++ drop (0 + length lent) w) where
-    abbrev room : Room
-    room = record { mid = mid; used = used - headSize }
+    abbrev bounds : Bounds
+    bounds = record { mid = mid; used = used - headSize }
 
     most : mid ≤ used - headSize
     most = omega (arith, long, p .most)
@@ -64,7 +64,7 @@ module _ (b : Bytes) (areBytes : AreBytes b) (is : isImage b ≡ true) {used : �
     fits : used - headSize ≤ length v
     fits = omega (arith, long, ap length e ∙ length-append lent (drop (0 + length lent) w))
 
-    pub loaded : Good v room × (map entryOf (realsIn v room) ≡ contentsOf b .real) × (groupsIn v room ≡ contentsOf b .empties) ×
+    pub loaded : Good v bounds × (map entryOf (realsIn v bounds) ≡ contentsOf b .real) × (groupsIn v bounds ≡ contentsOf b .empties) ×
         (used - headSize + headSize ≡ usedIn b)
     loaded = (
       record {

@@ -12,7 +12,7 @@ use Rattle.laws_records.specs.Faults.{fault-length}
 use Rattle.laws_records.specs.Records.{length-record}
 use Rattle.entries.specs.Entries.{IsRecord}
 use Rattle.apply_work.specs.Work.{groupsIn, Good, heldIn, contentsIn, mostRecord, Made}
-use Rattle.apply_work.specs.declared.Room.{Room}
+use Rattle.apply_work.specs.declared.Bounds.{Bounds}
 
 -- what a move can need
 pub record-size : (s : Bytes) → IsRecord s → length s ≤ mostRecord
@@ -20,13 +20,13 @@ record-size s i =
     omega (arith, ap length (i .bytes), length-record (i .value), fault-length stored (i .value .kind) (i .value .run) (i .passes))
 
 -- no move
-pub made-none : {w : Bytes} {room : Room} → Good w room → Made [] w room w room
+pub made-none : {w : Bytes} {bounds : Bounds} → Good w bounds → Made [] w bounds w bounds
 unfolding moves
 made-none good = record { good = good; real = λ f. refl; empties = λ f. refl; most = omega arith }
 
 -- one move, by what it makes of the real entries and of the empty groups
-pub made-one : (m : Move) {w v : Bytes} {room r : Room} → Good v r → heldIn v r ≡ onReal m (heldIn w room)
-    → groupsIn v r ≡ onEmpties m (heldIn w room) (groupsIn w room) → r .used ≤ room .used + mostRecord → Made (m ∷ []) w room v r
+pub made-one : (m : Move) {w v : Bytes} {bounds r : Bounds} → Good v r → heldIn v r ≡ onReal m (heldIn w bounds)
+    → groupsIn v r ≡ onEmpties m (heldIn w bounds) (groupsIn w bounds) → r .used ≤ bounds .used + mostRecord → Made (m ∷ []) w bounds v r
 unfolding moves move
 made-one m good real empties most = record { good = good; real = λ f. real; empties = λ f. empties; most = omega arith }
 
@@ -36,15 +36,15 @@ moves-append [] ns c = refl
 moves-append (m ∷ ms) ns c = moves-append ms ns (move m c)
 
 -- some moves, and then others
-pub made-then : (ms ns : List Move) {w v u : Bytes} {room r q : Room} → Made ms w room v r → Made ns v r u q → Made (ms ++ ns) w room u q
-made-then ms ns {w} {v} {u} {room} {r} {q} a b =
-    let between : (f : Fixed) → contentsIn v r (moves ms (contentsIn w room f) .fixed) ≡ moves ms (contentsIn w room f) =
+pub made-then : (ms ns : List Move) {w v u : Bytes} {bounds r q : Bounds} → Made ms w bounds v r → Made ns v r u q → Made (ms ++ ns) w bounds u q
+made-then ms ns {w} {v} {u} {bounds} {r} {q} a b =
+    let between : (f : Fixed) → contentsIn v r (moves ms (contentsIn w bounds f) .fixed) ≡ moves ms (contentsIn w bounds f) =
     λ f. rw (a .real f, a .empties f) refl in
-    let after : (f : Fixed) → moves ns (contentsIn v r (moves ms (contentsIn w room f) .fixed)) ≡ moves (ms ++ ns) (contentsIn w room f) =
-    λ f. ap (moves ns) (between f) ∙ sym (moves-append ms ns (contentsIn w room f)) in
+    let after : (f : Fixed) → moves ns (contentsIn v r (moves ms (contentsIn w bounds f) .fixed)) ≡ moves (ms ++ ns) (contentsIn w bounds f) =
+    λ f. ap (moves ns) (between f) ∙ sym (moves-append ms ns (contentsIn w bounds f)) in
     record {
       good = b .good;
-      real = λ f. b .real (moves ms (contentsIn w room f) .fixed) ∙ ap (λ (c : Contents). c .real) (after f);
-      empties = λ f. b .empties (moves ms (contentsIn w room f) .fixed) ∙ ap (λ (c : Contents). c .empties) (after f);
+      real = λ f. b .real (moves ms (contentsIn w bounds f) .fixed) ∙ ap (λ (c : Contents). c .real) (after f);
+      empties = λ f. b .empties (moves ms (contentsIn w bounds f) .fixed) ∙ ap (λ (c : Contents). c .empties) (after f);
       most = omega (arith, length-append ms ns, a .most, b .most);
     }

@@ -20,7 +20,7 @@ use Rattle.entries.specs.Entries.{recordsIn, spelt, Entries, IsRecord, recordIn
 use Rattle.entries.proofs.Parts.{put-pass, remove-pass, keep-pass, before-kept, after-kept, part-entries, part-records}
 use Rattle.find.specs.Found.{AllKept}
 use Rattle.apply_work.specs.Work.{realsIn, groupsIn, Good}
-use Rattle.apply_work.specs.declared.Room.{Room}
+use Rattle.apply_work.specs.declared.Bounds.{Bounds}
 
 -- 1. The part of a buffer whose entries changed, and what stands before and after it
 
@@ -48,14 +48,14 @@ module _ {w v : Bytes} {from to used n : ℕ} {l : List Rec} (c : Changed w v fr
         after = after-kept w v from to used n l c upto ends;
       }
 
-abbrev at-room : ℕ → ℕ → Room
-at-room mid used = record { mid = mid; used = used }
+abbrev at-bounds : ℕ → ℕ → Bounds
+at-bounds mid used = record { mid = mid; used = used }
 
 -- 2. The real entries changed, or the empty groups
 
-module _ {w v : Bytes} {room : Room} {n : ℕ} {l : List Rec} (good : Good w room) (pass : AllPass stored l) where
-  reals-changed : {upto : ℕ} → upto ≡ n - (room .used - room .mid) → AllKept l → Changed w v 0 (room .mid) (room .used) n l
-      → Good v (at-room upto n) × (realsIn v (at-room upto n) ≡ l) × (groupsIn v (at-room upto n) ≡ groupsIn w room)
+module _ {w v : Bytes} {bounds : Bounds} {n : ℕ} {l : List Rec} (good : Good w bounds) (pass : AllPass stored l) where
+  reals-changed : {upto : ℕ} → upto ≡ n - (bounds .used - bounds .mid) → AllKept l → Changed w v 0 (bounds .mid) (bounds .used) n l
+      → Good v (at-bounds upto n) × (realsIn v (at-bounds upto n) ≡ l) × (groupsIn v (at-bounds upto n) ≡ groupsIn w bounds)
   reals-changed {upto} e keeps c =
       let p = part c pass upto e in (
         record {
@@ -69,8 +69,8 @@ module _ {w v : Bytes} {room : Room} {n : ℕ} {l : List Rec} (good : Good w roo
         ap recordsIn (p .after),
       )
 
-  groups-changed : Changed w v (room .mid) (room .used) (room .used) n l
-      → Good v (at-room (room .mid) n) × (realsIn v (at-room (room .mid) n) ≡ realsIn w room) × (groupsIn v (at-room (room .mid) n) ≡ l)
+  groups-changed : Changed w v (bounds .mid) (bounds .used) (bounds .used) n l
+      → Good v (at-bounds (bounds .mid) n) × (realsIn v (at-bounds (bounds .mid) n) ≡ realsIn w bounds) × (groupsIn v (at-bounds (bounds .mid) n) ≡ l)
   groups-changed c =
       let p = part c pass n (omega arith) in (
         record {
@@ -86,50 +86,50 @@ module _ {w v : Bytes} {room : Room} {n : ℕ} {l : List Rec} (good : Good w roo
 
 -- 3. The five moves
 
-module _ {w v : Bytes} {room : Room} {n : ℕ} (areBytes : AreBytes w) (good : Good w room) where
-  pub put-reals : {new : Bytes} {upto : ℕ} → IsRecord new → kept (entryOf (recordIn new)) ≡ recordIn new → upto ≡ n - (room .used - room .mid)
-      → Changed w v 0 (room .mid) (room .used) n (put recordKey (recordIn new) (realsIn w room)) × (n ≤ room .used + length new)
-      → Good v (at-room upto n) × (realsIn v (at-room upto n) ≡ put recordKey (recordIn new) (realsIn w room)) ×
-      (groupsIn v (at-room upto n) ≡ groupsIn w room) × (n ≤ room .used + length new)
+module _ {w v : Bytes} {bounds : Bounds} {n : ℕ} (areBytes : AreBytes w) (good : Good w bounds) where
+  pub put-reals : {new : Bytes} {upto : ℕ} → IsRecord new → kept (entryOf (recordIn new)) ≡ recordIn new → upto ≡ n - (bounds .used - bounds .mid)
+      → Changed w v 0 (bounds .mid) (bounds .used) n (put recordKey (recordIn new) (realsIn w bounds)) × (n ≤ bounds .used + length new)
+      → Good v (at-bounds upto n) × (realsIn v (at-bounds upto n) ≡ put recordKey (recordIn new) (realsIn w bounds)) ×
+      (groupsIn v (at-bounds upto n) ≡ groupsIn w bounds) × (n ≤ bounds .used + length new)
   put-reals {new} i stands e c =
       let q =
-      reals-changed good (put-pass (slice 0 (room .mid) w) new (slice-are-bytes 0 (room .mid) w areBytes) (good .reals) i) e
-      (all-put recordKey (λ r. kept (entryOf r) ≡ r) (recordIn new) (realsIn w room) (good .keeps) stands) (c .0) in
+      reals-changed good (put-pass (slice 0 (bounds .mid) w) new (slice-are-bytes 0 (bounds .mid) w areBytes) (good .reals) i) e
+      (all-put recordKey (λ r. kept (entryOf r) ≡ r) (recordIn new) (realsIn w bounds) (good .keeps) stands) (c .0) in
       (q .0, q .1, q .2, c .1)
 
-  pub drop-reals : (k : Key) {upto : ℕ} → upto ≡ n - (room .used - room .mid)
-      → Changed w v 0 (room .mid) (room .used) n (remove recordKey k (realsIn w room)) × (n ≤ room .used)
-      → Good v (at-room upto n) × (realsIn v (at-room upto n) ≡ remove recordKey k (realsIn w room)) × (groupsIn v (at-room upto n) ≡ groupsIn w room) ×
-      (n ≤ room .used)
+  pub drop-reals : (k : Key) {upto : ℕ} → upto ≡ n - (bounds .used - bounds .mid)
+      → Changed w v 0 (bounds .mid) (bounds .used) n (remove recordKey k (realsIn w bounds)) × (n ≤ bounds .used)
+      → Good v (at-bounds upto n) × (realsIn v (at-bounds upto n) ≡ remove recordKey k (realsIn w bounds)) × (groupsIn v (at-bounds upto n) ≡ groupsIn w bounds) ×
+      (n ≤ bounds .used)
   drop-reals k e c =
       let q =
-      reals-changed good (remove-pass (slice 0 (room .mid) w) k (slice-are-bytes 0 (room .mid) w areBytes) (good .reals)) e
-      (all-remove recordKey (λ r. kept (entryOf r) ≡ r) k (realsIn w room) (good .keeps)) (c .0) in
+      reals-changed good (remove-pass (slice 0 (bounds .mid) w) k (slice-are-bytes 0 (bounds .mid) w areBytes) (good .reals)) e
+      (all-remove recordKey (λ r. kept (entryOf r) ≡ r) k (realsIn w bounds) (good .keeps)) (c .0) in
       (q .0, q .1, q .2, c .1)
 
-  pub keep-reals : (test : Key → Bool) {upto : ℕ} → upto ≡ n - (room .used - room .mid)
-      → Changed w v 0 (room .mid) (room .used) n (keep recordKey test (realsIn w room)) × (n ≤ room .used)
-      → Good v (at-room upto n) × (realsIn v (at-room upto n) ≡ keep recordKey test (realsIn w room)) × (groupsIn v (at-room upto n) ≡ groupsIn w room) ×
-      (n ≤ room .used)
+  pub keep-reals : (test : Key → Bool) {upto : ℕ} → upto ≡ n - (bounds .used - bounds .mid)
+      → Changed w v 0 (bounds .mid) (bounds .used) n (keep recordKey test (realsIn w bounds)) × (n ≤ bounds .used)
+      → Good v (at-bounds upto n) × (realsIn v (at-bounds upto n) ≡ keep recordKey test (realsIn w bounds)) × (groupsIn v (at-bounds upto n) ≡ groupsIn w bounds) ×
+      (n ≤ bounds .used)
   keep-reals test e c =
       let q =
-      reals-changed good (keep-pass (slice 0 (room .mid) w) test (slice-are-bytes 0 (room .mid) w areBytes) (good .reals)) e
-      (all-keep recordKey (λ r. kept (entryOf r) ≡ r) test (realsIn w room) (good .keeps)) (c .0) in
+      reals-changed good (keep-pass (slice 0 (bounds .mid) w) test (slice-are-bytes 0 (bounds .mid) w areBytes) (good .reals)) e
+      (all-keep recordKey (λ r. kept (entryOf r) ≡ r) test (realsIn w bounds) (good .keeps)) (c .0) in
       (q .0, q .1, q .2, c .1)
 
   pub put-groups : {new : Bytes} → IsRecord new
-      → Changed w v (room .mid) (room .used) (room .used) n (put recordKey (recordIn new) (groupsIn w room)) × (n ≤ room .used + length new)
-      → Good v (at-room (room .mid) n) × (realsIn v (at-room (room .mid) n) ≡ realsIn w room) ×
-      (groupsIn v (at-room (room .mid) n) ≡ put recordKey (recordIn new) (groupsIn w room)) × (n ≤ room .used + length new)
+      → Changed w v (bounds .mid) (bounds .used) (bounds .used) n (put recordKey (recordIn new) (groupsIn w bounds)) × (n ≤ bounds .used + length new)
+      → Good v (at-bounds (bounds .mid) n) × (realsIn v (at-bounds (bounds .mid) n) ≡ realsIn w bounds) ×
+      (groupsIn v (at-bounds (bounds .mid) n) ≡ put recordKey (recordIn new) (groupsIn w bounds)) × (n ≤ bounds .used + length new)
   put-groups {new} i c =
-      let s = slice (room .mid) (room .used) w in
-      let q = groups-changed good (put-pass s new (slice-are-bytes (room .mid) (room .used) w areBytes) (good .groups) i) (c .0) in
+      let s = slice (bounds .mid) (bounds .used) w in
+      let q = groups-changed good (put-pass s new (slice-are-bytes (bounds .mid) (bounds .used) w areBytes) (good .groups) i) (c .0) in
       (q .0, q .1, q .2, c .1)
 
-  pub drop-groups : (k : Key) → Changed w v (room .mid) (room .used) (room .used) n (remove recordKey k (groupsIn w room)) × (n ≤ room .used)
-      → Good v (at-room (room .mid) n) × (realsIn v (at-room (room .mid) n) ≡ realsIn w room) ×
-      (groupsIn v (at-room (room .mid) n) ≡ remove recordKey k (groupsIn w room)) × (n ≤ room .used)
+  pub drop-groups : (k : Key) → Changed w v (bounds .mid) (bounds .used) (bounds .used) n (remove recordKey k (groupsIn w bounds)) × (n ≤ bounds .used)
+      → Good v (at-bounds (bounds .mid) n) × (realsIn v (at-bounds (bounds .mid) n) ≡ realsIn w bounds) ×
+      (groupsIn v (at-bounds (bounds .mid) n) ≡ remove recordKey k (groupsIn w bounds)) × (n ≤ bounds .used)
   drop-groups k c =
-      let s = slice (room .mid) (room .used) w in
-      let q = groups-changed good (remove-pass s k (slice-are-bytes (room .mid) (room .used) w areBytes) (good .groups)) (c .0) in
+      let s = slice (bounds .mid) (bounds .used) w in
+      let q = groups-changed good (remove-pass s k (slice-are-bytes (bounds .mid) (bounds .used) w areBytes) (good .groups)) (c .0) in
       (q .0, q .1, q .2, c .1)

@@ -19,7 +19,7 @@ use Rattle.laws_image.specs.Entries.{entry-proper, kept-reads}
 use Rattle.laws_image.specs.Exact.{readable-records}
 use Rattle.entries.specs.Entries.{recordsIn, Entries}
 use Rattle.apply_work.specs.Work.{realsIn, groupsIn, Good, heldIn}
-use Rattle.apply_work.specs.declared.Room.{Room}
+use Rattle.apply_work.specs.declared.Bounds.{Bounds}
 
 pub entries-readable : (s : Bytes) → AreBytes s → Entries s → All Readable (recordsIn s)
 entries-readable s are e =
@@ -35,14 +35,14 @@ flag-reads r k = go (eqb (kindNumber (r .kind)) 1) refl
     go true e = subst (λ x. flagReads x ≡ true) (rw e at k) (kept-reads (topic (value 1 (r .run)) (value 2 (r .run)) (number (value 3 (r .run))) (number (value 4 (r .run))) (eqb (number (value 5 (r .run))) 1)) tt)
     go false e = unfold flagReads in rw e refl
 
-module _ (w : Bytes) (room : Room) (are : AreBytes w) (good : Good w room) where
-  pub held-proper : All Proper (heldIn w room)
+module _ (w : Bytes) (bounds : Bounds) (are : AreBytes w) (good : Good w bounds) where
+  pub held-proper : All Proper (heldIn w bounds)
   held-proper =
-      let s = take (room .mid) w in
-      let readable = entries-readable s (take-are-bytes (room .mid) w are) (good .reals) in
-      all-map (λ r. Readable r × (kept (entryOf r) ≡ r)) Proper entryOf (λ r p. entry-proper r (p .0) (flag-reads r (p .1))) (realsIn w room)
-      (all-both Readable (λ r. kept (entryOf r) ≡ r) (realsIn w room) readable (good .keeps))
+      let s = take (bounds .mid) w in
+      let readable = entries-readable s (take-are-bytes (bounds .mid) w are) (good .reals) in
+      all-map (λ r. Readable r × (kept (entryOf r) ≡ r)) Proper entryOf (λ r p. entry-proper r (p .0) (flag-reads r (p .1))) (realsIn w bounds)
+      (all-both Readable (λ r. kept (entryOf r) ≡ r) (realsIn w bounds) readable (good .keeps))
 
-  pub groups-readable : All Readable (groupsIn w room)
+  pub groups-readable : All Readable (groupsIn w bounds)
   groups-readable =
-      entries-readable (slice (room .mid) (room .used) w) (slice-are-bytes (room .mid) (room .used) w are) (good .groups)
+      entries-readable (slice (bounds .mid) (bounds .used) w) (slice-are-bytes (bounds .mid) (bounds .used) w are) (good .groups)

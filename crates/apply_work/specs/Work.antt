@@ -12,44 +12,44 @@ use Rattle.model.specs.Move.{Move, moves}
 use Rattle.laws_records.specs.Lengths.{longestBody}
 use Rattle.entries.specs.Entries.{recordsIn, Entries}
 use Rattle.find.specs.Found.{AllKept}
-use Rattle.apply_work.specs.declared.Room.{Room}
+use Rattle.apply_work.specs.declared.Bounds.{Bounds}
 use Rattle.apply_work.specs.declared.State.{State}
 
-abbrev pub realsIn : Bytes → Room → List Rec
-realsIn w room = recordsIn (take (room .mid) w)
+abbrev pub realsIn : Bytes → Bounds → List Rec
+realsIn w bounds = recordsIn (take (bounds .mid) w)
 
-abbrev pub groupsIn : Bytes → Room → List Rec
-groupsIn w room = recordsIn (slice (room .mid) (room .used) w)
+abbrev pub groupsIn : Bytes → Bounds → List Rec
+groupsIn w bounds = recordsIn (slice (bounds .mid) (bounds .used) w)
 
 -- a work array in order
-pub record Good (w : Bytes) (room : Room) : Type 0 where
-  pub order : room .mid ≤ room .used
-  pub fits : room .used ≤ length w
-  pub reals : Entries (take (room .mid) w)
-  pub groups : Entries (slice (room .mid) (room .used) w)
-  pub keeps : AllKept (realsIn w room)
+pub record Good (w : Bytes) (bounds : Bounds) : Type 0 where
+  pub order : bounds .mid ≤ bounds .used
+  pub fits : bounds .used ≤ length w
+  pub reals : Entries (take (bounds .mid) w)
+  pub groups : Entries (slice (bounds .mid) (bounds .used) w)
+  pub keeps : AllKept (realsIn w bounds)
 
 -- what it holds, beside the fixed parts
-abbrev pub heldIn : Bytes → Room → List Entry
-heldIn w room = map entryOf (realsIn w room)
+abbrev pub heldIn : Bytes → Bounds → List Entry
+heldIn w bounds = map entryOf (realsIn w bounds)
 
-abbrev pub contentsIn : Bytes → Room → Fixed → Contents
-contentsIn w room f = record { real = heldIn w room; empties = groupsIn w room; fixed = f }
+abbrev pub contentsIn : Bytes → Bounds → Fixed → Contents
+contentsIn w bounds f = record { real = heldIn w bounds; empties = groupsIn w bounds; fixed = f }
 
 -- the same with the fixed parts of a state
 abbrev pub fixedParts : State → Fixed
 fixedParts s = record { epoch = s .epoch; kraft = s .kraft }
 
 abbrev pub stateIn : Bytes → State → Contents
-stateIn w s = contentsIn w (s .room) (fixedParts s)
+stateIn w s = contentsIn w (s .bounds) (fixedParts s)
 
 -- no record is longer: three bytes, and the longest body
 abbrev pub mostRecord : ℕ
 mostRecord = 3 + longestBody
 
 -- a work array after moves: in order, with the entries that they make, each at most one record longer
-pub record Made (ms : List Move) (w : Bytes) (room : Room) (v : Bytes) (r : Room) : Type 0 where
+pub record Made (ms : List Move) (w : Bytes) (bounds : Bounds) (v : Bytes) (r : Bounds) : Type 0 where
   pub good : Good v r
-  pub real : (f : Fixed) → heldIn v r ≡ moves ms (contentsIn w room f) .real
-  pub empties : (f : Fixed) → groupsIn v r ≡ moves ms (contentsIn w room f) .empties
-  pub most : r .used ≤ room .used + mostRecord * length ms
+  pub real : (f : Fixed) → heldIn v r ≡ moves ms (contentsIn w bounds f) .real
+  pub empties : (f : Fixed) → groupsIn v r ≡ moves ms (contentsIn w bounds f) .empties
+  pub most : r .used ≤ bounds .used + mostRecord * length ms

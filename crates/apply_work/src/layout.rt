@@ -1,5 +1,5 @@
 // The image of what a work array holds.
-use crate::Room;
+use crate::Bounds;
 use header::HEAD_SIZE;
 use header::put_header;
 ghost use mathlib.Core.Path.{_≡_};
@@ -10,11 +10,11 @@ ghost use Rattle.header.specs.Header.{fixedOf};
 ghost use Rattle.apply_work.specs.Work.{Good, contentsIn};
 
 // Lays the entries of a work array out as an image: its header, the entries, and zeros.
-pub fn lay(image: &mut [u8], w: &[u8], room: Room, epoch: u64, kraft: u64)
-    requires { ⌜ Good (now w) room × (headSize + room .used ≤ length (now image)) ⌝ }
-    ensures { λ _. ⌜ now (image .exit) ≡ imageOf (length (now (image .entry))) (contentsIn (now (w .entry)) room (fixedOf epoch kraft)) ⌝ }
+pub fn lay(image: &mut [u8], w: &[u8], bounds: Bounds, epoch: u64, kraft: u64)
+    requires { ⌜ Good (now w) bounds × (headSize + bounds .used ≤ length (now image)) ⌝ }
+    ensures { λ _. ⌜ now (image .exit) ≡ imageOf (length (now (image .entry))) (contentsIn (now (w .entry)) bounds (fixedOf epoch kraft)) ⌝ }
 {
-    let used = room.used;
+    let used = bounds.used;
     let end = HEAD_SIZE + used;
     wire::copy(image, HEAD_SIZE, &w[..used]);
     wire::clear(&mut image[end..]);

@@ -22,14 +22,14 @@ ghost use Rattle.entries.specs.Entries.{IsRecord, recordIn};
 ghost use Rattle.apply_work.specs.Work.{realsIn, groupsIn, Good};
 
 // Where the entries stand in a work array: the real ones up to `mid`, the empty groups from there up to `used`.
-pub struct Room {
+pub struct Bounds {
     pub mid: usize,
     pub used: usize,
 }
 
 // What a work array holds: where its entries stand, and the fixed parts.
 pub struct State {
-    pub room: Room,
+    pub bounds: Bounds,
     pub epoch: u64,
     pub kraft: u64,
 }
@@ -41,78 +41,78 @@ pub enum Tried {
 }
 
 // Puts a record among the real entries.
-pub fn put_real(w: &mut [u8], room: Room, rec: &[u8]) -> Room
-    requires { ⌜ Good (now w) room × IsRecord (now rec) × (kept (entryOf (recordIn (now rec))) ≡ recordIn (now rec)) × (room .used + length (now rec) ≤ length (now w)) ⌝ }
-    ensures { λ r. ⌜ Good (now (w .exit)) r × (realsIn (now (w .exit)) r ≡ putIn recordKey (recordIn (now (rec .entry))) (realsIn (now (w .entry)) room)) × (groupsIn (now (w .exit)) r ≡ groupsIn (now (w .entry)) room) × (r .used ≤ room .used + length (now (rec .entry))) ⌝ }
+pub fn put_real(w: &mut [u8], bounds: Bounds, rec: &[u8]) -> Bounds
+    requires { ⌜ Good (now w) bounds × IsRecord (now rec) × (kept (entryOf (recordIn (now rec))) ≡ recordIn (now rec)) × (bounds .used + length (now rec) ≤ length (now w)) ⌝ }
+    ensures { λ r. ⌜ Good (now (w .exit)) r × (realsIn (now (w .exit)) r ≡ putIn recordKey (recordIn (now (rec .entry))) (realsIn (now (w .entry)) bounds)) × (groupsIn (now (w .exit)) r ≡ groupsIn (now (w .entry)) bounds) × (r .used ≤ bounds .used + length (now (rec .entry))) ⌝ }
 {
-    let mid = room.mid;
-    let used = room.used;
+    let mid = bounds.mid;
+    let used = bounds.used;
     let n = put(w, 0, mid, used, rec);
-    Room {
+    Bounds {
         mid: n - (used - mid),
         used: n,
     }
 }
 
 // Takes the real entry of a probe's key out.
-pub fn drop_real(w: &mut [u8], room: Room, probe: &[u8]) -> Room
-    requires { ⌜ Good (now w) room × Keyed (now probe) ⌝ }
-    ensures { λ r. ⌜ Good (now (w .exit)) r × (realsIn (now (w .exit)) r ≡ removeIn recordKey (keyIn (now (probe .entry))) (realsIn (now (w .entry)) room)) × (groupsIn (now (w .exit)) r ≡ groupsIn (now (w .entry)) room) × (r .used ≤ room .used) ⌝ }
+pub fn drop_real(w: &mut [u8], bounds: Bounds, probe: &[u8]) -> Bounds
+    requires { ⌜ Good (now w) bounds × Keyed (now probe) ⌝ }
+    ensures { λ r. ⌜ Good (now (w .exit)) r × (realsIn (now (w .exit)) r ≡ removeIn recordKey (keyIn (now (probe .entry))) (realsIn (now (w .entry)) bounds)) × (groupsIn (now (w .exit)) r ≡ groupsIn (now (w .entry)) bounds) × (r .used ≤ bounds .used) ⌝ }
 {
-    let mid = room.mid;
-    let used = room.used;
+    let mid = bounds.mid;
+    let used = bounds.used;
     let left = remove(w, 0, mid, used, probe);
-    Room {
+    Bounds {
         mid: left - (used - mid),
         used: left,
     }
 }
 
 // Takes the real entries under a topic out.
-pub fn drop_topic(w: &mut [u8], room: Room, name: &[u8]) -> Room
-    requires { ⌜ Good (now w) room ⌝ }
-    ensures { λ r. ⌜ Good (now (w .exit)) r × (realsIn (now (w .exit)) r ≡ keep recordKey (apartFrom (now (name .entry))) (realsIn (now (w .entry)) room)) × (groupsIn (now (w .exit)) r ≡ groupsIn (now (w .entry)) room) × (r .used ≤ room .used) ⌝ }
+pub fn drop_topic(w: &mut [u8], bounds: Bounds, name: &[u8]) -> Bounds
+    requires { ⌜ Good (now w) bounds ⌝ }
+    ensures { λ r. ⌜ Good (now (w .exit)) r × (realsIn (now (w .exit)) r ≡ keep recordKey (apartFrom (now (name .entry))) (realsIn (now (w .entry)) bounds)) × (groupsIn (now (w .exit)) r ≡ groupsIn (now (w .entry)) bounds) × (r .used ≤ bounds .used) ⌝ }
 {
-    let mid = room.mid;
-    let used = room.used;
+    let mid = bounds.mid;
+    let used = bounds.used;
     let left = remove_topic(w, 0, mid, used, name);
-    Room {
+    Bounds {
         mid: left - (used - mid),
         used: left,
     }
 }
 
 // Puts a record among the empty groups.
-pub fn put_group(w: &mut [u8], room: Room, rec: &[u8]) -> Room
-    requires { ⌜ Good (now w) room × IsRecord (now rec) × (room .used + length (now rec) ≤ length (now w)) ⌝ }
-    ensures { λ r. ⌜ Good (now (w .exit)) r × (realsIn (now (w .exit)) r ≡ realsIn (now (w .entry)) room) × (groupsIn (now (w .exit)) r ≡ putIn recordKey (recordIn (now (rec .entry))) (groupsIn (now (w .entry)) room)) × (r .used ≤ room .used + length (now (rec .entry))) ⌝ }
+pub fn put_group(w: &mut [u8], bounds: Bounds, rec: &[u8]) -> Bounds
+    requires { ⌜ Good (now w) bounds × IsRecord (now rec) × (bounds .used + length (now rec) ≤ length (now w)) ⌝ }
+    ensures { λ r. ⌜ Good (now (w .exit)) r × (realsIn (now (w .exit)) r ≡ realsIn (now (w .entry)) bounds) × (groupsIn (now (w .exit)) r ≡ putIn recordKey (recordIn (now (rec .entry))) (groupsIn (now (w .entry)) bounds)) × (r .used ≤ bounds .used + length (now (rec .entry))) ⌝ }
 {
-    let mid = room.mid;
-    let used = room.used;
+    let mid = bounds.mid;
+    let used = bounds.used;
     let n = put(w, mid, used, used, rec);
-    Room { mid, used: n }
+    Bounds { mid, used: n }
 }
 
 // Takes the empty group of a probe's key out.
-pub fn drop_group(w: &mut [u8], room: Room, probe: &[u8]) -> Room
-    requires { ⌜ Good (now w) room × Keyed (now probe) ⌝ }
-    ensures { λ r. ⌜ Good (now (w .exit)) r × (realsIn (now (w .exit)) r ≡ realsIn (now (w .entry)) room) × (groupsIn (now (w .exit)) r ≡ removeIn recordKey (keyIn (now (probe .entry))) (groupsIn (now (w .entry)) room)) × (r .used ≤ room .used) ⌝ }
+pub fn drop_group(w: &mut [u8], bounds: Bounds, probe: &[u8]) -> Bounds
+    requires { ⌜ Good (now w) bounds × Keyed (now probe) ⌝ }
+    ensures { λ r. ⌜ Good (now (w .exit)) r × (realsIn (now (w .exit)) r ≡ realsIn (now (w .entry)) bounds) × (groupsIn (now (w .exit)) r ≡ removeIn recordKey (keyIn (now (probe .entry))) (groupsIn (now (w .entry)) bounds)) × (r .used ≤ bounds .used) ⌝ }
 {
-    let mid = room.mid;
-    let used = room.used;
+    let mid = bounds.mid;
+    let used = bounds.used;
     let left = remove(w, mid, used, used, probe);
-    Room { mid, used: left }
+    Bounds { mid, used: left }
 }
 
 // Copies the entries of an image to the start of a work array.
-pub fn load(w: &mut [u8], image: &[u8]) -> Room
+pub fn load(w: &mut [u8], image: &[u8]) -> Bounds
     requires { ⌜ (isImage (now image) ≡ true) × (length (now image) ≤ length (now w)) ⌝ }
     ensures { λ r. ⌜ Good (now (w .exit)) r × (map entryOf (realsIn (now (w .exit)) r) ≡ contentsOf (now (image .entry)) .real) × (groupsIn (now (w .exit)) r ≡ contentsOf (now (image .entry)) .empties) × (r .used + headSize ≡ usedIn (now (image .entry))) ⌝ }
 {
     let used = used_in(image);
-    let reals = tail_start(&image[64..used]);
-    wire::copy(w, 0, &image[64..used]);
-    Room {
+    let reals = tail_start(&image[HEAD_SIZE..used]);
+    wire::copy(w, 0, &image[HEAD_SIZE..used]);
+    Bounds {
         mid: reals,
         used: used - HEAD_SIZE,
     }

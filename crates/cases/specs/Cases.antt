@@ -119,12 +119,12 @@ unfolding cases Text.wellFormed Text.following Text.textAfter Run.parse Run.byte
     Order.compareBytes Order.compareKeys Order.sameBytes Kind.kinds Kind.kindOf Kind.kindNumber Shape.rowsOf Shape.anyRequired
     Shape.mayFollow Shape.isBelowByte Shape.leafFault Shape.runFault Shape.valueFault Shape.shapeOf Reply.emitBytes Record.recordBytes
     Record.read Record.readOf Record.gathered Record.writeOf Key.rank Key.entitiesKey Key.subject Key.keyOf Key.keyRank Key.keyName
-    Key.topicOf Key.groupKey Key.startsWith Map.put Map.get Map.remove Map.keep Map.any Map.count Map.ascending Contents.shown
+    Key.topicOf Key.groupKey Key.startsWith Map.put Map.get Map.remove Map.keep Map.any Map.count Map.ascending Contents.returned
     Contents.kept Contents.key Contents.groupOf Contents.ofTopic Contents.partitions Contents.size Choice.total Contents.weight
     Contents.typesInOrder Contents.storable Contents.isGroup Contents.storableEntry Contents.namesId Contents.namedApart Contents.sound
     Items.itemsFrom Items.records Items.isWhole Image.isCapacity Image.mark Image.header Image.entryBytes Image.imageOf Image.entryOf
-    Image.flagReads Image.realOf Image.emptiesOf Image.contentsOf Image.headerOk Image.entriesOk Image.isImage Image.openOf Move.unname
-    Move.unnameOld Move.countOf Move.tell Move.setDirectories Move.apartFrom Move.onReal Move.onEmpties Move.bumped Move.onFixed Move.move
+    Image.flagReads Image.realOf Image.emptiesOf Image.contentsOf Image.headerOk Image.entriesOk Image.isImage Image.openOf Move.clearNamed
+    Move.clearOldNamed Move.countOf Move.countPartition Move.setDirectories Move.apartFrom Move.onReal Move.onEmpties Move.bumped Move.onFixed Move.move
     Move.moves Move.fields Move.updateMoves Move.changedBroker Move.slotOf Move.directoryMoves Move.insertEntity Move.sortedEntities
     Move.sortedQuota Move.plan Move.moved Move.overflows Validate.topicExists Validate.extends Validate.alone Validate.against
     Validate.judge Validate.validateOf Apply.apply Apply.applyOf Snapshot.emit Snapshot.epochRecords Snapshot.kraftRecords

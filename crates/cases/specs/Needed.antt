@@ -37,12 +37,12 @@ use Rattle.cases.specs.Inputs.{p, r, level, topicNamed, partition, unset
 -- 1. What a history shows
 
 -- a number in the last answer: Apply's, the value of a lookup, or a field of the record that it wrote
-unfoldable shown : ℕ → List Answer → ℕ
-shown tag [] = 0
-shown tag (a ∷ b ∷ l) = shown tag (b ∷ l)
-shown tag (verdict v a ∷ []) = given a 0 (λ x. x .number)
-shown tag (said x ∷ []) = firstValue (x .values)
-shown tag (wrote e ∷ []) = number (fieldOf tag e)
+unfoldable returned : ℕ → List Answer → ℕ
+returned tag [] = 0
+returned tag (a ∷ b ∷ l) = returned tag (b ∷ l)
+returned tag (verdict v a ∷ []) = given a 0 (λ x. x .number)
+returned tag (said x ∷ []) = firstValue (x .values)
+returned tag (wrote e ∷ []) = number (fieldOf tag e)
 
 -- a history from a fresh image, and what it shows at the end, with its cuts and without them
 record Example : Type 0 where
@@ -113,8 +113,8 @@ record Computes (p : Premise) (e : Example) : Type 0 where
   capacity : isCapacity (length (lent (e .capacity))) ≡ true
   given : Given (length (lent (e .capacity))) (e .steps)
   others : (q : Premise) → eqb (place q) (place p) || meets q (uncut (e .steps)) (opened (e .capacity)) ≡ true
-  cut-shows : shown (e .field) (run (e .steps) (opened (e .capacity))) ≡ e .with-cuts
-  uncut-shows : shown (e .field) (run (uncut (e .steps)) (opened (e .capacity))) ≡ e .without
+  cut-shows : returned (e .field) (run (e .steps) (opened (e .capacity))) ≡ e .with-cuts
+  uncut-shows : returned (e .field) (run (uncut (e .steps)) (opened (e .capacity))) ≡ e .without
   differ : eqb (e .with-cuts) (e .without) ≡ false
 
 each : (test : Premise → Bool) → test ids ≡ true → test factors ≡ true → test epochs ≡ true → test room ≡ true
@@ -129,14 +129,14 @@ are-bytes [] h = tt
 are-bytes (x ∷ s) h = let b = and-yes (ltb x 256) (every (λ y. ltb y 256) s) h in (ltb→lt x 256 (b .0), are-bytes s (b .1))
 
 computes : (p : Premise) → Computes p (table p)
-unfolding shown Text.wellFormed Text.following Text.textAfter Run.parse Run.bytesOf Run.field Run.dropField Run.setField
+unfolding returned Text.wellFormed Text.following Text.textAfter Run.parse Run.bytesOf Run.field Run.dropField Run.setField
     Order.compareBytes Order.compareKeys Order.sameBytes Kind.kindOf Kind.kindNumber Shape.rowsOf Shape.anyRequired Shape.mayFollow
     Shape.leafFault Shape.runFault Shape.valueFault Shape.shapeOf Reply.emitBytes Record.recordBytes Record.read Key.rank Key.subject
-    Key.keyOf Key.keyRank Key.keyName Map.put Map.get Map.remove Map.any Map.count Map.ascending Contents.shown Contents.kept
+    Key.keyOf Key.keyRank Key.keyName Map.put Map.get Map.remove Map.any Map.count Map.ascending Contents.returned Contents.kept
     Contents.key Contents.groupOf Contents.ofTopic Contents.partitions Contents.size Choice.total Contents.weight Contents.isGroup
     Contents.storableEntry Contents.namesId Contents.namedApart Contents.sound Items.itemsFrom Items.records Items.isWhole
     Image.isCapacity Image.mark Image.header Image.entryBytes Image.imageOf Image.entryOf Image.flagReads Image.realOf Image.emptiesOf
-    Image.contentsOf Image.headerOk Image.entriesOk Image.isImage Image.openOf Move.unname Move.unnameOld Move.countOf Move.tell
+    Image.contentsOf Image.headerOk Image.entriesOk Image.isImage Image.openOf Move.clearNamed Move.clearOldNamed Move.countOf Move.countPartition
     Move.onReal Move.onEmpties Move.onFixed Move.move Move.moves Move.plan Move.moved Move.overflows Validate.topicExists Validate.alone
     Validate.against Validate.judge Validate.validateOf Apply.apply Apply.applyOf Snapshot.emit Snapshot.epochRecords
     Snapshot.kraftRecords Snapshot.snapshot Snapshot.snapshotOf Snapshot.replay Snapshot.restoreOf Lookup.topicByName Lookup.namedBy
@@ -208,5 +208,5 @@ premises-needed p =
       capacity = c .capacity;
       given = c .given;
       others = others-meet p (λ q. meets q (uncut (e .steps)) (opened (e .capacity))) (c .others);
-      seen = λ same. eqb-false (e .with-cuts) (e .without) (c .differ) (sym (c .cut-shows) ∙ ap (shown (e .field)) same ∙ c .uncut-shows);
+      seen = λ same. eqb-false (e .with-cuts) (e .without) (c .differ) (sym (c .cut-shows) ∙ ap (returned (e .field)) same ∙ c .uncut-shows);
     }

@@ -21,8 +21,8 @@ use Rattle.laws.specs.Choice.{cond-same}
 use Rattle.keys.specs.Keys.{kindIn, runIn}
 use Rattle.entries.specs.Entries.{IsRecord, recordIn}
 use Rattle.image_entries.proofs.Records.{kind-in, run-in}
-use Rattle.records.specs.Answers.{written}
-use Rattle.records.proofs.Written.{written-nothing}
+use Rattle.records.specs.Answers.{putAt}
+use Rattle.records.proofs.Written.{put-at-nothing}
 use Rattle.downgrade_brokers.specs.Known.{projectedBytes}
 use Rattle.downgrade_slots.specs.Slots.{assignmentBytes}
 use Rattle.downgrade.specs.Listed.{listedBytes}
@@ -74,10 +74,10 @@ module _ (level : ℕ) (r : Rec) {b : Bytes} (e : listedBytes level r ≡ b) whe
     pub listed-fits : at + length (listedBytes level r) ≤ length out → at + length b ≤ length out
     listed-fits h = rw e at h
 
-    pub listed-put : {n : ℕ} {w : Bytes} → (n ≡ at + length b) × (w ≡ written out at b)
-        → (n ≡ at + length (listedBytes level r)) × (w ≡ written out at (listedBytes level r))
+    pub listed-put : {n : ℕ} {w : Bytes} → (n ≡ at + length b) × (w ≡ putAt out at b)
+        → (n ≡ at + length (listedBytes level r)) × (w ≡ putAt out at (listedBytes level r))
     listed-put h = rw e h
 
 pub none-put : (level : ℕ) (r : Rec) → listedBytes level r ≡ [] → (out : Bytes) (at : ℕ)
-    → (at ≡ at + length (listedBytes level r)) × (out ≡ written out at (listedBytes level r))
-none-put level r e out at = listed-put level r e out at (omega arith, sym (written-nothing out at))
+    → (at ≡ at + length (listedBytes level r)) × (out ≡ putAt out at (listedBytes level r))
+none-put level r e out at = listed-put level r e out at (omega arith, sym (put-at-nothing out at))

@@ -20,7 +20,7 @@ use Rattle.laws.specs.Choice.{and-left}
 use Rattle.laws.specs.Lists.{joined-append}
 use Rattle.laws_records.specs.Emits.{emit-fits, emit-short}
 use Rattle.laws_image.specs.Tests.{capacity-most}
-use Rattle.records.specs.Answers.{written}
+use Rattle.records.specs.Answers.{putAt}
 use Rattle.entries.specs.Entries.{recordsIn}
 use Rattle.find.specs.Reals.{Reals}
 use Rattle.find.proofs.Lent.{lent-part}
@@ -63,7 +63,7 @@ module _ (image : Bytes) {end : ℕ} (r : Reals image end) where
       fits h = omega arith
 
       pub emitted : n ≤ length out → {k : ℕ} {w : Bytes}
-          → (k ≡ length (listedIn level (take (end - headSize) (drop headSize image)))) × (w ≡ written out 0 (listedIn level (take (end - headSize) (drop headSize image))))
+          → (k ≡ length (listedIn level (take (end - headSize) (drop headSize image)))) × (w ≡ putAt out 0 (listedIn level (take (end - headSize) (drop headSize image))))
           → (accepted (k ∷ []) ≡ emit (downgrade level (contentsOf image)) out .reply) × (w ≡ emit (downgrade level (contentsOf image)) out .buffer)
       emitted h q =
           let s = listedIn level (take (end - headSize) (drop headSize image)) in

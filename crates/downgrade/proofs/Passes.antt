@@ -12,7 +12,7 @@ use Rattle.entries.specs.declared.Cursor.{Cursor}
 use Rattle.entries.proofs.Turns.{Stands}
 use Rattle.image_entries.proofs.Turns.{forward, inside, entry-is, next-at, past-end}
 use Rattle.keys.proofs.Found.{lent-slice}
-use Rattle.records.specs.Answers.{written}
+use Rattle.records.specs.Answers.{putAt}
 use Rattle.records.proofs.Growing.{Growing, grow-start, part-fits, grow, grown}
 use Rattle.downgrade.specs.Listed.{listedBytes, listedIn}
 
@@ -76,7 +76,7 @@ pub write-start : (level : ℕ) (s out : Bytes) → Entries s → length (listed
 write-start level s out e fits = record { entries = e; grows = grow-start out 0 (listedIn level s) (omega arith) }
 
 module _ {level : ℕ} {s out w : Bytes} {at n : ℕ} (h : Wrote level s out w at n) where
-  pub wrote : length s ≤ at → (n ≡ length (listedIn level s)) × (w ≡ written out 0 (listedIn level s))
+  pub wrote : length s ≤ at → (n ≡ length (listedIn level s)) × (w ≡ putAt out 0 (listedIn level s))
   wrote past = let all = grown (h .grows) (none-to-come level s at past) in (omega (arith, all .0), all .1)
 
   module _ {start end : ℕ} {next : Cursor} (t : Stands s at start end next) where
@@ -86,5 +86,5 @@ module _ {level : ℕ} {s out w : Bytes} {at n : ℕ} (h : Wrote level s out w a
     pub entry-fits : n + length here ≤ length w
     entry-fits = part-fits (h .grows) here (listedIn level (drop (next .at) s)) (one-to-come level t)
 
-    pub write-turn : {v : Bytes} {m : ℕ} → (m ≡ n + length here) × (v ≡ written w n here) → Wrote level s out v (next .at) m
+    pub write-turn : {v : Bytes} {m : ℕ} → (m ≡ n + length here) × (v ≡ putAt w n here) → Wrote level s out v (next .at) m
     write-turn q = record { entries = rest-entries level t; grows = grow (h .grows) here (listedIn level (drop (next .at) s)) (one-to-come level t) q }

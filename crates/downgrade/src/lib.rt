@@ -8,10 +8,13 @@ use downgrade_slots::put_assignments;
 use entries::Cursor;
 use entries::Step;
 use find::reals_end;
-use header::NO_IMAGE;
+use header::HEAD_SIZE;
 use image::is_image;
-use records::Answer;
-use shape_faults::TOO_SHORT;
+use model::answers::Answer;
+use model::kinds::BROKER_REGISTRATION;
+use model::kinds::PARTITION;
+use model::refusals::NO_IMAGE;
+use model::refusals::TOO_SHORT;
 ghost use mathlib.Core.Path.{_≡_};
 ghost use mathlib.Core.Bool.{true};
 ghost use Prim.Native.Nat.{_+_, _*_, _≤_};
@@ -19,21 +22,17 @@ ghost use lib.ListN.{length};
 ghost use Rattle.model.specs.Image.{isImage, contentsOf};
 ghost use Rattle.model.specs.Snapshot.{emit};
 ghost use Rattle.model.specs.Downgrade.{downgrade as downgradeRecords, downgradeOf};
-ghost use Rattle.records.specs.Answers.{replied, written};
+ghost use Rattle.model.specs.Answers.{replied};
+ghost use Rattle.records.specs.Answers.{putAt};
 ghost use Rattle.entries.specs.Entries.{Entries, IsRecord, recordIn};
 ghost use Rattle.downgrade.specs.Listed.{listedBytes, listedIn};
-
-// The kinds of entries that are listed.
-const PARTITION: u8 = 2;
-
-const BROKER: u8 = 3;
 
 // How long the records of an entry are.
 fn listed_size(s: &[u8], level: u16) -> usize
     requires { ⌜ IsRecord (now s) ⌝ }
     ensures { λ r. ⌜ (r ≡ length (listedBytes level (recordIn (now (s .entry))))) × (r ≤ 19 * length (now (s .entry))) ⌝ }
 {
-    if s[0] == BROKER {
+    if s[0] == BROKER_REGISTRATION {
         return projected_size(s, level);
     }
     if s[0] != PARTITION {
@@ -48,9 +47,9 @@ fn listed_size(s: &[u8], level: u16) -> usize
 // Writes the records of an entry. Where they end.
 fn put_listed(out: &mut [u8], at: usize, s: &[u8], level: u16) -> usize
     requires { ⌜ IsRecord (now s) × (at + length (listedBytes level (recordIn (now s))) ≤ length (now out)) ⌝ }
-    ensures { λ r. ⌜ (r ≡ at + length (listedBytes level (recordIn (now (s .entry))))) × (now (out .exit) ≡ written (now (out .entry)) at (listedBytes level (recordIn (now (s .entry))))) ⌝ }
+    ensures { λ r. ⌜ (r ≡ at + length (listedBytes level (recordIn (now (s .entry))))) × (now (out .exit) ≡ putAt (now (out .entry)) at (listedBytes level (recordIn (now (s .entry))))) ⌝ }
 {
-    if s[0] == BROKER {
+    if s[0] == BROKER_REGISTRATION {
         return put_projected(out, at, s, level);
     }
     if s[0] != PARTITION {
@@ -88,7 +87,7 @@ fn listed_length(s: &[u8], level: u16) -> usize
 // Writes the records of some entries to the start of an output. How many bytes they are.
 fn put_entries(out: &mut [u8], s: &[u8], level: u16) -> usize
     requires { ⌜ Entries (now s) × (length (listedIn level (now s)) ≤ length (now out)) ⌝ }
-    ensures { λ r. ⌜ (r ≡ length (listedIn level (now (s .entry)))) × (now (out .exit) ≡ written (now (out .entry)) 0 (listedIn level (now (s .entry)))) ⌝ }
+    ensures { λ r. ⌜ (r ≡ length (listedIn level (now (s .entry)))) × (now (out .exit) ≡ putAt (now (out .entry)) 0 (listedIn level (now (s .entry)))) ⌝ }
 {
     let mut c = Cursor { at: 0 };
     let mut n = 0;
@@ -115,10 +114,10 @@ fn emit_listed(image: &[u8], level: u16, out: &mut [u8]) -> Answer
     ensures { λ _. ⌜ now (out .exit) ≡ emit (downgradeRecords level (contentsOf (now (image .entry)))) (now (out .entry)) .buffer ⌝ }
 {
     let end = reals_end(image);
-    if out.len() < listed_length(&image[64..end], level) {
+    if out.len() < listed_length(&image[HEAD_SIZE..end], level) {
         return Answer::Refused(TOO_SHORT);
     }
-    Answer::Used(put_entries(out, &image[64..end], level))
+    Answer::Used(put_entries(out, &image[HEAD_SIZE..end], level))
 }
 
 // The records that take an image to a metadata level, the 16 bits of a signed number: changed brokers, then, below level 17, directory

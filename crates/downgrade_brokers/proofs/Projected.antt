@@ -23,20 +23,20 @@ use Rattle.keys.specs.Keys.{kindIn, runIn}
 use Rattle.entries.specs.Entries.{IsRecord}
 use Rattle.entries.proofs.Changes.{record-in}
 use Rattle.image_entries.proofs.Records.{headed, run-in, kind-is}
-use Rattle.records.specs.Answers.{written, head}
-use Rattle.records.proofs.Written.{written-nothing, written-append, length-written}
+use Rattle.records.specs.Answers.{putAt, head}
+use Rattle.records.proofs.Written.{put-at-nothing, put-at-append, length-written}
 use Rattle.downgrade_brokers.specs.Known.{emptyTag, goneTag, known, knownField, fieldBytes, projectedBytes}
 use Rattle.downgrade_brokers.proofs.Known.{known-same, no-bytes, project-known}
 
 -- 1. A field, as it is written
 
 module _ (empty gone t : ℕ) (v out : Bytes) (at : ℕ) where
-  written-as : {part : Bytes} → knownField empty gone t v ≡ part → {n : ℕ} {w : Bytes} → (n ≡ at + length part) × (w ≡ written out at part)
-      → (n ≡ at + length (knownField empty gone t v)) × (w ≡ written out at (knownField empty gone t v))
+  written-as : {part : Bytes} → knownField empty gone t v ≡ part → {n : ℕ} {w : Bytes} → (n ≡ at + length part) × (w ≡ putAt out at part)
+      → (n ≡ at + length (knownField empty gone t v)) × (w ≡ putAt out at (knownField empty gone t v))
   written-as e h = rw e h
 
-  pub put-gone : t ≡ gone → (at ≡ at + length (knownField empty gone t v)) × (out ≡ written out at (knownField empty gone t v))
-  put-gone e = written-as {part = []} (rw (eq-eqb t gone e)) (omega arith, sym (written-nothing out at))
+  pub put-gone : t ≡ gone → (at ≡ at + length (knownField empty gone t v)) × (out ≡ putAt out at (knownField empty gone t v))
+  put-gone e = written-as {part = []} (rw (eq-eqb t gone e)) (omega arith, sym (put-at-nothing out at))
 
   module _ (there : t ≡ gone → ⊥) where
     is-empty : t ≡ empty → knownField empty gone t v ≡ head t 0
@@ -52,12 +52,12 @@ module _ (empty gone t : ℕ) (v out : Bytes) (at : ℕ) where
       pub whole-fits : (t ≡ empty → ⊥) → at + 3 + length v ≤ length out
       whole-fits other = omega (arith, ap length (is-whole other))
 
-    pub put-empty : t ≡ empty → {w : Bytes} → w ≡ written out at (head t 0)
-        → (at + 3 ≡ at + length (knownField empty gone t v)) × (w ≡ written out at (knownField empty gone t v))
+    pub put-empty : t ≡ empty → {w : Bytes} → w ≡ putAt out at (head t 0)
+        → (at + 3 ≡ at + length (knownField empty gone t v)) × (w ≡ putAt out at (knownField empty gone t v))
     put-empty e h = written-as (is-empty e) (omega arith, h)
 
-    pub put-whole : (t ≡ empty → ⊥) → {w : Bytes} → w ≡ written out at (fieldBytes t v)
-        → (at + 3 + length v ≡ at + length (knownField empty gone t v)) × (w ≡ written out at (knownField empty gone t v))
+    pub put-whole : (t ≡ empty → ⊥) → {w : Bytes} → w ≡ putAt out at (fieldBytes t v)
+        → (at + 3 + length v ≡ at + length (knownField empty gone t v)) × (w ≡ putAt out at (knownField empty gone t v))
     put-whole other h = written-as (is-whole other) (omega arith, h)
 
 -- 2. A broker
@@ -107,8 +107,8 @@ module _ (s : Bytes) (i : IsRecord s) (is : kindIn s ≡ 3) where
 
     -- what is written, by the size
     module _ {size : ℕ} (es : size ≡ length (projectedBytes level (runIn s))) where
-      pub nothing : size ≡ 0 → (out : Bytes) (at : ℕ) → (at ≡ at + length (projectedBytes level (runIn s))) × (out ≡ written out at (projectedBytes level (runIn s)))
-      nothing z out at = (omega arith, sym (written-nothing out at) ∙ ap (written out at) (no-bytes (projectedBytes level (runIn s)) (sym es ∙ z)))
+      pub nothing : size ≡ 0 → (out : Bytes) (at : ℕ) → (at ≡ at + length (projectedBytes level (runIn s))) × (out ≡ putAt out at (projectedBytes level (runIn s)))
+      nothing z out at = (omega arith, sym (put-at-nothing out at) ∙ ap (putAt out at) (no-bytes (projectedBytes level (runIn s)) (sym es ∙ z)))
 
       module _ (some : size ≡ 0 → ⊥) where
         parts : (projectedBytes level (runIn s) ≡ head 3 (size - 3) ++ bytesOf (known empty gone (runIn s))) × (size ≡ 3 + length (bytesOf (known empty gone (runIn s))))
@@ -131,17 +131,17 @@ module _ (s : Bytes) (i : IsRecord s) (is : kindIn s ≡ 3) where
           pub head-fits : at + 3 ≤ length out
           head-fits = omega (arith, es, size-low)
 
-          module _ {w : Bytes} (ew : w ≡ written out at (head 3 (size - 3))) where
+          module _ {w : Bytes} (ew : w ≡ putAt out at (head 3 (size - 3))) where
             pub run-fits : at + 3 + length (bytesOf (known empty gone (runIn s))) ≤ length w
             run-fits = omega (arith, ap length ew ∙ length-written out at (head 3 (size - 3)) (omega (arith, head-fits)), es, parts .1)
 
             pub put-parts : {n : ℕ} {v : Bytes}
-                → (n ≡ at + 3 + length (bytesOf (known empty gone (runIn s)))) × (v ≡ written w (at + 3) (bytesOf (known empty gone (runIn s))))
-                → (n ≡ at + length (projectedBytes level (runIn s))) × (v ≡ written out at (projectedBytes level (runIn s)))
+                → (n ≡ at + 3 + length (bytesOf (known empty gone (runIn s)))) × (v ≡ putAt w (at + 3) (bytesOf (known empty gone (runIn s))))
+                → (n ≡ at + length (projectedBytes level (runIn s))) × (v ≡ putAt out at (projectedBytes level (runIn s)))
             put-parts h = (
               omega (arith, h .0, es, parts .1),
               h .1
-                  ∙ ap (λ x. written x (at + 3) (bytesOf (known empty gone (runIn s)))) ew
-                  ∙ written-append out at (head 3 (size - 3)) (omega (arith, head-fits)) (bytesOf (known empty gone (runIn s)))
-                  ∙ ap (written out at) (sym (parts .0)),
+                  ∙ ap (λ x. putAt x (at + 3) (bytesOf (known empty gone (runIn s)))) ew
+                  ∙ put-at-append out at (head 3 (size - 3)) (omega (arith, head-fits)) (bytesOf (known empty gone (runIn s)))
+                  ∙ ap (putAt out at) (sym (parts .0)),
             )

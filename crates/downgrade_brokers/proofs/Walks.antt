@@ -12,7 +12,7 @@ use Rattle.fields.specs.Fields.{fieldsFrom}
 use Rattle.fields.specs.declared.Cursor.{Cursor}
 use Rattle.fields.proofs.Took.{Moved}
 use Rattle.keys.specs.Keys.{runIn}
-use Rattle.records.specs.Answers.{written}
+use Rattle.records.specs.Answers.{putAt}
 use Rattle.keys.proofs.Found.{lent-slice}
 use Rattle.keys.proofs.Elements.{begins}
 use Rattle.downgrade_brokers.specs.Known.{emptied, known, knownField, knownSize}
@@ -113,7 +113,7 @@ write-start s empty gone out at headed whole fits = record {
 }
 
 module _ {s : Bytes} {empty gone : ℕ} {out w : Bytes} {at : ℕ} {c : Cursor} {to : ℕ} (h : Wrote s empty gone out w at c to) where
-  pub wrote : fieldsFrom s c ≡ done → (to ≡ at + length (all s empty gone)) × (w ≡ written out at (all s empty gone))
+  pub wrote : fieldsFrom s c ≡ done → (to ≡ at + length (all s empty gone)) × (w ≡ putAt out at (all s empty gone))
   wrote e = grown (h .grows) (none-to-come s empty gone c e)
 
   module _ {t start len : ℕ} {next : Cursor} (m : Moved c t start len next) (e : fieldsFrom s c ≡ item t (slice start (start + len) s) (fieldsFrom s next)) where
@@ -128,5 +128,5 @@ module _ {s : Bytes} {empty gone : ℕ} {out w : Bytes} {at : ℕ} {c : Cursor} 
 
     pub write-turn : {v : Bytes} {n : ℕ}
         → (n ≡ to + length (knownField empty gone t (take (start + len - start) (drop start s))))
-        × (v ≡ written w to (knownField empty gone t (take (start + len - start) (drop start s)))) → Wrote s empty gone out v at next n
+        × (v ≡ putAt w to (knownField empty gone t (take (start + len - start) (drop start s)))) → Wrote s empty gone out v at next n
     write-turn q = record { ahead = ahead-turn (h .ahead) m e; grows = grow (h .grows) (knownField empty gone t (take (start + len - start) (drop start s))) (toCome s empty gone next) next-part q }

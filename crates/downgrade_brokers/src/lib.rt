@@ -1,6 +1,7 @@
 // A broker as a metadata level knows it: with no log dirs below 17, and without cordoned dirs below 30.
 use fields::Cursor;
 use fields::Step;
+use model::kinds::BROKER_REGISTRATION;
 use records::put_field;
 use records::put_head;
 ghost use mathlib.Core.Path.{_≡_};
@@ -11,11 +12,8 @@ ghost use Rattle.model.specs.Downgrade.{isUnder};
 ghost use Rattle.laws_records.specs.Runs.{Whole};
 ghost use Rattle.keys.specs.Keys.{kindIn, runIn};
 ghost use Rattle.entries.specs.Entries.{IsRecord};
-ghost use Rattle.records.specs.Answers.{written};
+ghost use Rattle.records.specs.Answers.{putAt};
 ghost use Rattle.downgrade_brokers.specs.Known.{emptyTag, goneTag, known, knownField, knownSize, projectedBytes};
-
-// The kind of a broker's registration, and the tags of its log dirs and its cordoned dirs.
-const BROKER: u8 = 3;
 
 const LOG_DIRS: usize = 8;
 
@@ -99,7 +97,7 @@ fn known_length(s: &[u8], empty: usize, gone: usize) -> usize
 // Writes a field as it is known. Where it ends.
 fn put_known(out: &mut [u8], at: usize, tag: usize, v: &[u8], empty: usize, gone: usize) -> usize
     requires { ⌜ (tag < 256) × (at + length (knownField empty gone tag (now v)) ≤ length (now out)) ⌝ }
-    ensures { λ r. ⌜ (r ≡ at + length (knownField empty gone tag (now (v .entry)))) × (now (out .exit) ≡ written (now (out .entry)) at (knownField empty gone tag (now (v .entry)))) ⌝ }
+    ensures { λ r. ⌜ (r ≡ at + length (knownField empty gone tag (now (v .entry)))) × (now (out .exit) ≡ putAt (now (out .entry)) at (knownField empty gone tag (now (v .entry)))) ⌝ }
 {
     if tag == gone {
         return at;
@@ -115,7 +113,7 @@ fn put_known(out: &mut [u8], at: usize, tag: usize, v: &[u8], empty: usize, gone
 // Writes a record's fields as they are known. Where they end.
 fn put_run(out: &mut [u8], at: usize, s: &[u8], empty: usize, gone: usize) -> usize
     requires { ⌜ (3 ≤ length (now s)) × Whole (runIn (now s)) × (at + length (bytesOf (known empty gone (runIn (now s)))) ≤ length (now out)) ⌝ }
-    ensures { λ r. ⌜ (r ≡ at + length (bytesOf (known empty gone (runIn (now (s .entry)))))) × (now (out .exit) ≡ written (now (out .entry)) at (bytesOf (known empty gone (runIn (now (s .entry)))))) ⌝ }
+    ensures { λ r. ⌜ (r ≡ at + length (bytesOf (known empty gone (runIn (now (s .entry)))))) × (now (out .exit) ≡ putAt (now (out .entry)) at (bytesOf (known empty gone (runIn (now (s .entry)))))) ⌝ }
 {
     let mut c = Cursor { at: 3, to: s.len() };
     let mut to = at;
@@ -156,12 +154,12 @@ pub fn projected_size(s: &[u8], level: u16) -> usize
 // Writes a broker's record as a level knows it, nothing where that is the broker's own. Where it ends.
 pub fn put_projected(out: &mut [u8], at: usize, s: &[u8], level: u16) -> usize
     requires { ⌜ IsRecord (now s) × (kindIn (now s) ≡ 3) × (at + length (projectedBytes level (runIn (now s))) ≤ length (now out)) ⌝ }
-    ensures { λ r. ⌜ (r ≡ at + length (projectedBytes level (runIn (now (s .entry))))) × (now (out .exit) ≡ written (now (out .entry)) at (projectedBytes level (runIn (now (s .entry))))) ⌝ }
+    ensures { λ r. ⌜ (r ≡ at + length (projectedBytes level (runIn (now (s .entry))))) × (now (out .exit) ≡ putAt (now (out .entry)) at (projectedBytes level (runIn (now (s .entry))))) ⌝ }
 {
     let size = projected_size(s, level);
     if size == 0 {
         return at;
     }
-    put_head(out, at, BROKER, size - 3);
+    put_head(out, at, BROKER_REGISTRATION, size - 3);
     put_run(out, at + 3, s, empty_tag(level), gone_tag(level))
 }

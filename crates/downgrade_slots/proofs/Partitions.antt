@@ -21,7 +21,7 @@ use Rattle.keys.specs.Keys.{kindIn, runIn}
 use Rattle.keys.proofs.Found.{lent-slice, part-length}
 use Rattle.entries.specs.Entries.{IsRecord}
 use Rattle.image_entries.proofs.Records.{run-in, value-is}
-use Rattle.records.specs.Answers.{written}
+use Rattle.records.specs.Answers.{putAt}
 use Rattle.downgrade_slots.specs.Slots.{slotBytes, slotsBytes, slotsSize, assignmentBytes}
 use Rattle.downgrade_slots.proofs.Records.{length-slot}
 
@@ -126,6 +126,6 @@ module _ (s : Bytes) (i : IsRecord s) (is : kindIn s ≡ 2) where
 
       pub all-put : (out : Bytes) (at : ℕ) {n : ℕ} {w : Bytes}
           → (n ≡ at + length (slotsBytes (take (b - a) (drop a s)) (take (d - c) (drop c s)) count (take (f - e) (drop e s)) (take (h - g) (drop g s))))
-          × (w ≡ written out at (slotsBytes (take (b - a) (drop a s)) (take (d - c) (drop c s)) count (take (f - e) (drop e s)) (take (h - g) (drop g s))))
-          → (n ≡ at + length (assignmentBytes (runIn s))) × (w ≡ written out at (assignmentBytes (runIn s)))
-      all-put out at q = (q .0 ∙ ap (λ x. at + length x) same-bytes, q .1 ∙ ap (written out at) same-bytes)
+          × (w ≡ putAt out at (slotsBytes (take (b - a) (drop a s)) (take (d - c) (drop c s)) count (take (f - e) (drop e s)) (take (h - g) (drop g s))))
+          → (n ≡ at + length (assignmentBytes (runIn s))) × (w ≡ putAt out at (assignmentBytes (runIn s)))
+      all-put out at q = (q .0 ∙ ap (λ x. at + length x) same-bytes, q .1 ∙ ap (putAt out at) same-bytes)

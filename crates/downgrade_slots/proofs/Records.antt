@@ -13,8 +13,8 @@ use Rattle.model.specs.Record.{recordBytes}
 use Rattle.model.specs.Downgrade.{migrating}
 use Rattle.laws_records.specs.Runs.{length-item}
 use Rattle.laws_records.specs.Records.{length-record}
-use Rattle.records.specs.Answers.{written, head}
-use Rattle.records.proofs.Written.{written-nothing}
+use Rattle.records.specs.Answers.{putAt, head}
+use Rattle.records.proofs.Written.{put-at-nothing}
 use Rattle.records.proofs.Growing.{Growing, grow-start, part-fits, rest-fits, grow, grown}
 use Rattle.downgrade_slots.specs.Slots.{assigning, slotBytes, slotSize}
 
@@ -36,41 +36,41 @@ module _ (name number node : Bytes) where
     pub assignment-fits : at + 31 + length name + length number + length node ≤ length out
     assignment-fits = omega (arith, size)
 
-    module _ {a : Bytes} (ea : a ≡ written out at (head 14 (at + 3 + 3 + length name + 3 + length number + 3 + length node + 19 - (at + 3)))) where
+    module _ {a : Bytes} (ea : a ≡ putAt out at (head 14 (at + 3 + 3 + length name + 3 + length number + 3 + length node + 19 - (at + 3)))) where
       first : Growing out a at (at + 3) (recordBytes (assigning name number node)) (field 1 name ++ (field 2 number ++ (field 3 node ++ field 4 migrating)))
       unfolding recordBytes bytesOf kindNumber fieldOf
       first =
           let body = field 1 name ++ (field 2 number ++ (field 3 node ++ field 4 migrating)) in
           let long : at + 3 + 3 + length name + 3 + length number + 3 + length node + 19 - (at + 3) ≡ length body = omega (arith, size) in
-          grow (grow-start out at (recordBytes (assigning name number node)) fits) (head 14 (length body)) body refl (omega arith, ea ∙ ap (λ n. written out at (head 14 n)) long)
+          grow (grow-start out at (recordBytes (assigning name number node)) fits) (head 14 (length body)) body refl (omega arith, ea ∙ ap (λ n. putAt out at (head 14 n)) long)
 
       pub first-fits : at + 3 + 3 + length name ≤ length a
       first-fits = omega (arith, part-fits first (field 1 name) (field 2 number ++ (field 3 node ++ field 4 migrating)) refl)
 
-      module _ {b : Bytes} (eb : b ≡ written a (at + 3) (field 1 name)) where
+      module _ {b : Bytes} (eb : b ≡ putAt a (at + 3) (field 1 name)) where
         second : Growing out b at (at + 3 + 3 + length name) (recordBytes (assigning name number node)) (field 2 number ++ (field 3 node ++ field 4 migrating))
         second = grow first (field 1 name) (field 2 number ++ (field 3 node ++ field 4 migrating)) refl (omega arith, eb)
 
         pub second-fits : at + 3 + 3 + length name + 3 + length number ≤ length b
         second-fits = omega (arith, part-fits second (field 2 number) (field 3 node ++ field 4 migrating) refl)
 
-        module _ {c : Bytes} (ec : c ≡ written b (at + 3 + 3 + length name) (field 2 number)) where
+        module _ {c : Bytes} (ec : c ≡ putAt b (at + 3 + 3 + length name) (field 2 number)) where
           third : Growing out c at (at + 3 + 3 + length name + 3 + length number) (recordBytes (assigning name number node)) (field 3 node ++ field 4 migrating)
           third = grow second (field 2 number) (field 3 node ++ field 4 migrating) refl (omega arith, ec)
 
           pub third-fits : at + 3 + 3 + length name + 3 + length number + 3 + length node ≤ length c
           third-fits = omega (arith, part-fits third (field 3 node) (field 4 migrating) refl)
 
-          module _ {d : Bytes} (ed : d ≡ written c (at + 3 + 3 + length name + 3 + length number) (field 3 node)) where
+          module _ {d : Bytes} (ed : d ≡ putAt c (at + 3 + 3 + length name + 3 + length number) (field 3 node)) where
             fourth : Growing out d at (at + 3 + 3 + length name + 3 + length number + 3 + length node) (recordBytes (assigning name number node)) (field 4 migrating)
             fourth = grow third (field 3 node) (field 4 migrating) refl (omega arith, ed)
 
             pub fourth-fits : at + 3 + 3 + length name + 3 + length number + 3 + length node + 3 + 16 ≤ length d
             fourth-fits = omega (arith, rest-fits fourth)
 
-            pub assignment-put : {e : Bytes} → e ≡ written d (at + 3 + 3 + length name + 3 + length number + 3 + length node) (field 4 migrating)
+            pub assignment-put : {e : Bytes} → e ≡ putAt d (at + 3 + 3 + length name + 3 + length number + 3 + length node) (field 4 migrating)
                 → (at + 3 + 3 + length name + 3 + length number + 3 + length node + 19 ≡ at + length (recordBytes (assigning name number node)))
-                × (e ≡ written out at (recordBytes (assigning name number node)))
+                × (e ≡ putAt out at (recordBytes (assigning name number node)))
             assignment-put ee = grown (grow fourth (field 4 migrating) [] refl (omega arith, ee)) refl
 
 -- 2. The slot
@@ -83,15 +83,15 @@ module _ (name number node dir : Bytes) {b : Bool} (eb : b ≡ sameBytes dir mig
   one-there f = rw (sym eb ∙ f)
 
   module _ (out : Bytes) (at : ℕ) where
-    pub slot-none : b ≡ true → (at ≡ at + length (slotBytes name number node dir)) × (out ≡ written out at (slotBytes name number node dir))
-    slot-none t = rw (none-there t) (omega arith, sym (written-nothing out at))
+    pub slot-none : b ≡ true → (at ≡ at + length (slotBytes name number node dir)) × (out ≡ putAt out at (slotBytes name number node dir))
+    slot-none t = rw (none-there t) (omega arith, sym (put-at-nothing out at))
 
     pub slot-fits : b ≡ false → at + length (slotBytes name number node dir) ≤ length out → at + length (recordBytes (assigning name number node)) ≤ length out
     slot-fits f h = rw (one-there f) at h
 
     pub slot-put : b ≡ false → {n : ℕ} {w : Bytes}
-        → (n ≡ at + length (recordBytes (assigning name number node))) × (w ≡ written out at (recordBytes (assigning name number node)))
-        → (n ≡ at + length (slotBytes name number node dir)) × (w ≡ written out at (slotBytes name number node dir))
+        → (n ≡ at + length (recordBytes (assigning name number node))) × (w ≡ putAt out at (recordBytes (assigning name number node)))
+        → (n ≡ at + length (slotBytes name number node dir)) × (w ≡ putAt out at (slotBytes name number node dir))
     slot-put f h = rw (one-there f) h
 
 pub length-slot : (name number node dir : Bytes) → length node ≡ 8 → length (slotBytes name number node dir) ≡ slotSize dir (39 + length name + length number)

@@ -11,7 +11,7 @@ use Rattle.model.specs.Order.{sameBytes}
 use Rattle.model.specs.Downgrade.{migrating}
 use Rattle.laws.specs.Numbers.{slice-are-bytes, bytes-number}
 use Rattle.keys.proofs.Found.{lent-slice}
-use Rattle.records.specs.Answers.{written}
+use Rattle.records.specs.Answers.{putAt}
 use Rattle.records.proofs.Growing.{Growing, grow-start, part-fits, grow, grown}
 use Rattle.downgrade_slots.specs.Slots.{slotBytes, slotsBytes, slotSize, slotsSize}
 
@@ -121,7 +121,7 @@ write-start name number nodes dirs out at count fits = record {
 }
 
 module _ {name number nodes dirs out w : Bytes} {at count i to : ℕ} (h : Wrote name number nodes dirs out w at count i to) where
-  pub wrote : count ≤ i → (to ≡ at + length (slotsBytes name number count nodes dirs)) × (w ≡ written out at (slotsBytes name number count nodes dirs))
+  pub wrote : count ≤ i → (to ≡ at + length (slotsBytes name number count nodes dirs)) × (w ≡ putAt out at (slotsBytes name number count nodes dirs))
   wrote past =
       let last : count - i ≡ 0 = omega arith in
       grown (h .grows)
@@ -140,5 +140,5 @@ module _ {name number nodes dirs out w : Bytes} {at count i to : ℕ} (h : Wrote
     pub slot-room : to + length here ≤ length w
     slot-room = part-fits (h .grows) here later step
 
-    pub write-turn : {v : Bytes} {n : ℕ} → (n ≡ to + length here) × (v ≡ written w to here) → Wrote name number nodes dirs out v at count (i + 1) n
+    pub write-turn : {v : Bytes} {n : ℕ} → (n ≡ to + length here) × (v ≡ putAt w to here) → Wrote name number nodes dirs out v at count (i + 1) n
     write-turn q = record { low = omega arith; grows = grow (h .grows) here later step q }

@@ -2,6 +2,7 @@
 // directory is MIGRATING, all zeros.
 use keys::value_at;
 use model::NodeId;
+use model::kinds::PARTITION_DIR_ASSIGNMENT;
 use records::put_field;
 use records::put_head;
 ghost use mathlib.Core.Path.{_≡_};
@@ -12,11 +13,8 @@ ghost use Rattle.model.specs.Record.{recordBytes};
 ghost use Rattle.model.specs.Downgrade.{slots};
 ghost use Rattle.keys.specs.Keys.{kindIn, runIn};
 ghost use Rattle.entries.specs.Entries.{IsRecord};
-ghost use Rattle.records.specs.Answers.{written};
+ghost use Rattle.records.specs.Answers.{putAt};
 ghost use Rattle.downgrade_slots.specs.Slots.{assigning, slotBytes, slotsBytes, slotSize, slotsSize, assignmentBytes};
-
-// The kind of an assignment, and how long one is but for its topic's name and its partition's number.
-const ASSIGNMENT: u8 = 14;
 
 const FIXED_SIZE: usize = 39;
 
@@ -68,14 +66,14 @@ fn slots_size(dirs: &[u8], count: usize, size: usize) -> usize
 // Writes an assignment of a replica to MIGRATING. Where it ends.
 fn put_assignment(out: &mut [u8], at: usize, name: &[u8], number: &[u8], node: &[u8]) -> usize
     requires { ⌜ at + length (recordBytes (assigning (now name) (now number) (now node))) ≤ length (now out) ⌝ }
-    ensures { λ r. ⌜ (r ≡ at + length (recordBytes (assigning (now (name .entry)) (now (number .entry)) (now (node .entry))))) × (now (out .exit) ≡ written (now (out .entry)) at (recordBytes (assigning (now (name .entry)) (now (number .entry)) (now (node .entry))))) ⌝ }
+    ensures { λ r. ⌜ (r ≡ at + length (recordBytes (assigning (now (name .entry)) (now (number .entry)) (now (node .entry))))) × (now (out .exit) ≡ putAt (now (out .entry)) at (recordBytes (assigning (now (name .entry)) (now (number .entry)) (now (node .entry))))) ⌝ }
 {
     let migrating = MIGRATING;
     let first = at + 3;
     let second = first + 3 + name.len();
     let third = second + 3 + number.len();
     let fourth = third + 3 + node.len();
-    put_head(out, at, ASSIGNMENT, fourth + 19 - first);
+    put_head(out, at, PARTITION_DIR_ASSIGNMENT, fourth + 19 - first);
     put_field(out, first, 1, name);
     put_field(out, second, 2, number);
     put_field(out, third, 3, node);
@@ -93,7 +91,7 @@ fn put_slot(
     dir: &[u8],
 ) -> usize
     requires { ⌜ at + length (slotBytes (now name) (now number) (bytes 8 (node .0)) (now dir)) ≤ length (now out) ⌝ }
-    ensures { λ r. ⌜ (r ≡ at + length (slotBytes (now (name .entry)) (now (number .entry)) (bytes 8 (node .0)) (now (dir .entry)))) × (now (out .exit) ≡ written (now (out .entry)) at (slotBytes (now (name .entry)) (now (number .entry)) (bytes 8 (node .0)) (now (dir .entry)))) ⌝ }
+    ensures { λ r. ⌜ (r ≡ at + length (slotBytes (now (name .entry)) (now (number .entry)) (bytes 8 (node .0)) (now (dir .entry)))) × (now (out .exit) ≡ putAt (now (out .entry)) at (slotBytes (now (name .entry)) (now (number .entry)) (bytes 8 (node .0)) (now (dir .entry)))) ⌝ }
 {
     let migrating = MIGRATING;
     if wire::same(dir, &migrating) {
@@ -115,7 +113,7 @@ fn put_slots(
     dirs: &[u8],
 ) -> usize
     requires { ⌜ (count * 8 ≤ length (now nodes)) × (count * 16 ≤ length (now dirs)) × (at + length (slotsBytes (now name) (now number) count (now nodes) (now dirs)) ≤ length (now out)) ⌝ }
-    ensures { λ r. ⌜ (r ≡ at + length (slotsBytes (now (name .entry)) (now (number .entry)) count (now (nodes .entry)) (now (dirs .entry)))) × (now (out .exit) ≡ written (now (out .entry)) at (slotsBytes (now (name .entry)) (now (number .entry)) count (now (nodes .entry)) (now (dirs .entry)))) ⌝ }
+    ensures { λ r. ⌜ (r ≡ at + length (slotsBytes (now (name .entry)) (now (number .entry)) count (now (nodes .entry)) (now (dirs .entry)))) × (now (out .exit) ≡ putAt (now (out .entry)) at (slotsBytes (now (name .entry)) (now (number .entry)) count (now (nodes .entry)) (now (dirs .entry)))) ⌝ }
 {
     let mut to = at;
     let mut i = 0;
@@ -146,7 +144,7 @@ pub fn assignments_size(s: &[u8]) -> usize
 // Writes the assignments of a partition. Where they end.
 pub fn put_assignments(out: &mut [u8], at: usize, s: &[u8]) -> usize
     requires { ⌜ IsRecord (now s) × (kindIn (now s) ≡ 2) × (at + length (assignmentBytes (runIn (now s))) ≤ length (now out)) ⌝ }
-    ensures { λ r. ⌜ (r ≡ at + length (assignmentBytes (runIn (now (s .entry))))) × (now (out .exit) ≡ written (now (out .entry)) at (assignmentBytes (runIn (now (s .entry))))) ⌝ }
+    ensures { λ r. ⌜ (r ≡ at + length (assignmentBytes (runIn (now (s .entry))))) × (now (out .exit) ≡ putAt (now (out .entry)) at (assignmentBytes (runIn (now (s .entry))))) ⌝ }
 {
     let name = value_at(s, 1);
     let number = value_at(s, 2);

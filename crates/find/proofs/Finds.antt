@@ -18,7 +18,7 @@ use Rattle.model.specs.Kind.{kindNumber}
 use Rattle.model.specs.Shape.{stored, fault, rowsOf, shapeOf}
 use Rattle.model.specs.Record.{recordBytes}
 use Rattle.model.specs.Map.{get}
-use Rattle.model.specs.Contents.{key, kept, shown, recordKey}
+use Rattle.model.specs.Contents.{key, kept, returned, recordKey}
 use Rattle.model.specs.Image.{entryOf}
 use Rattle.model.specs.Reply.{Reply, accepted, emitBytes}
 use Rattle.model.specs.Snapshot.{emit}
@@ -40,8 +40,8 @@ use Rattle.entries.proofs.Changes.{record-in}
 use Rattle.entries.proofs.Lookups.{absent, present}
 use Rattle.find.specs.Probe.{probeSize, probeBytes}
 use Rattle.find.proofs.Probes.{probe-keyed, probe-key}
-use Rattle.find.specs.Shown.{Entire, shownBytes}
-use Rattle.find.proofs.Records.{record-shown}
+use Rattle.find.specs.Returned.{Entire, returnedBytes}
+use Rattle.find.proofs.Records.{record-returned}
 use Rattle.find.specs.Found.{Query, queryKey, foundIn, AllKept, recordAt, PlaceHolds}
 
 -- 1. The probe
@@ -114,21 +114,21 @@ module _ (s : Bytes) (at end : ℕ) (h : PlaceHolds s at end) where
   emit-none q out = rw (le-ltb at end q) (emit-nothing out)
 
   module _ (longer : at < end) where
-    place-bytes : joined recordBytes (recordAt s at end) ≡ shownBytes (slice at end s)
+    place-bytes : joined recordBytes (recordAt s at end) ≡ returnedBytes (slice at end s)
     unfolding recordAt
     place-bytes =
         let e = slice at end s in
         let r = recordIn e in
         let i = h longer .is in
         let bytes : recordBytes r ≡ e = ap recordBytes (record-in e i) ∙ sym (i .bytes) in
-        rw (lt-ltb at end longer) (append-nil (recordBytes (shown (entryOf r))) ∙ record-shown r (h longer .keeps) ∙ ap shownBytes bytes)
+        rw (lt-ltb at end longer) (append-nil (recordBytes (returned (entryOf r))) ∙ record-returned r (h longer .keeps) ∙ ap returnedBytes bytes)
 
-    pub emit-entry : (out : Bytes) {r : Reply} {o : Bytes} → r ≡ emitBytes (shownBytes (take (end - at) (drop at s))) out .reply
-        → o ≡ emitBytes (shownBytes (take (end - at) (drop at s))) out .buffer
+    pub emit-entry : (out : Bytes) {r : Reply} {o : Bytes} → r ≡ emitBytes (returnedBytes (take (end - at) (drop at s))) out .reply
+        → o ≡ emitBytes (returnedBytes (take (end - at) (drop at s))) out .buffer
         → (r ≡ emit (recordAt s at end) out .reply) × (o ≡ emit (recordAt s at end) out .buffer)
     unfolding emit
     emit-entry out e f =
-        let same : shownBytes (take (end - at) (drop at s)) ≡ joined recordBytes (recordAt s at end) = ap shownBytes (lent-slice s at end (omega arith)) ∙ sym place-bytes in
+        let same : returnedBytes (take (end - at) (drop at s)) ≡ joined recordBytes (recordAt s at end) = ap returnedBytes (lent-slice s at end (omega arith)) ∙ sym place-bytes in
         (e ∙ ap (λ x. emitBytes x out .reply) same, f ∙ ap (λ x. emitBytes x out .buffer) same)
 
     pub lent-entire : Entire (take (end - at) (drop at s))
@@ -152,8 +152,8 @@ module _ (s : Bytes) (k : Key) (at end : ℕ) (p : Placed s k at end) (areBytes 
   unfolding recordAt
   found-record = elim (decLt at end) [ yes q ↦ there q | no q ↦ nothing (omega arith) ]
     where
-      there : at < end → cond (ltb at end) (shown (entryOf (recordIn (slice at end s))) ∷ []) [] ≡ foundIn k s
+      there : at < end → cond (ltb at end) (returned (entryOf (recordIn (slice at end s))) ∷ []) [] ≡ foundIn k s
       there q = rw (lt-ltb at end q) (sym (found-key k s ∙ ap (λ o. found (over entryOf o)) (present s k at end p areBytes whole q .1)))
 
-      nothing : end ≤ at → cond (ltb at end) (shown (entryOf (recordIn (slice at end s))) ∷ []) [] ≡ foundIn k s
+      nothing : end ≤ at → cond (ltb at end) (returned (entryOf (recordIn (slice at end s))) ∷ []) [] ≡ foundIn k s
       nothing q = rw (le-ltb at end q) (sym (found-key k s ∙ ap (λ o. found (over entryOf o)) (absent s k at end p q)))

@@ -13,15 +13,15 @@ use Rattle.model.specs.Key.{keyOf}
 use Rattle.model.specs.declared.Kind.{Kind}
 use Rattle.laws_records.specs.Runs.{run-bytes}
 use Rattle.keys.specs.Keys.{runIn, keyIn, WidthsFit, Keyed}
-use Rattle.records.specs.Answers.{written, head}
-use Rattle.records.proofs.Written.{written-append}
+use Rattle.records.specs.Answers.{putAt, head}
+use Rattle.records.proofs.Written.{put-at-append}
 use Rattle.find.specs.Probe.{probeRun, probeSize, probeBytes}
 
 -- 1. The writing
 
 module _ (p p1 p2 p3 first second : Bytes) (kind : ℕ) (fits : probeSize first second ≤ length p) {len middle : ℕ}
-    (el : len ≡ 6 + length first + length second) (em : middle ≡ 6 + length first) (e1 : p1 ≡ written p 0 (head kind len))
-    (e2 : p2 ≡ written p1 3 (head 1 (length first) ++ first)) (e3 : p3 ≡ written p2 middle (head 2 (length second) ++ second)) where
+    (el : len ≡ 6 + length first + length second) (em : middle ≡ 6 + length first) (e1 : p1 ≡ putAt p 0 (head kind len))
+    (e2 : p2 ≡ putAt p1 3 (head 1 (length first) ++ first)) (e3 : p3 ≡ putAt p2 middle (head 2 (length second) ++ second)) where
   length-front : length (head kind len ++ (head 1 (length first) ++ first)) ≡ 6 + length first
   length-front = omega arith
 
@@ -31,14 +31,14 @@ module _ (p p1 p2 p3 first second : Bytes) (kind : ℕ) (fits : probeSize first 
       ∙ ap (λ n. n + length (head 2 (length second) ++ second)) length-front
       ∙ omega arith
 
-  all-written : p3 ≡ written p 0 (head kind len ++ (head 1 (length first) ++ first) ++ (head 2 (length second) ++ second))
+  all-written : p3 ≡ putAt p 0 (head kind len ++ (head 1 (length first) ++ first) ++ (head 2 (length second) ++ second))
   all-written =
-      let two : p2 ≡ written p 0 (head kind len ++ (head 1 (length first) ++ first)) =
-      e2 ∙ ap (λ x. written x 3 (head 1 (length first) ++ first)) e1 ∙ written-append p 0 (head kind len) (omega arith) (head 1 (length first) ++ first) in
+      let two : p2 ≡ putAt p 0 (head kind len ++ (head 1 (length first) ++ first)) =
+      e2 ∙ ap (λ x. putAt x 3 (head 1 (length first) ++ first)) e1 ∙ put-at-append p 0 (head kind len) (omega arith) (head 1 (length first) ++ first) in
       let front = head kind len ++ (head 1 (length first) ++ first) in
       let at : middle ≡ 0 + length front = omega (arith, em, length-front) in
-      e3 ∙ ap₂ (λ x n. written x n (head 2 (length second) ++ second)) two at
-      ∙ written-append p 0 front (omega (arith, length-front)) (head 2 (length second) ++ second)
+      e3 ∙ ap₂ (λ x n. putAt x n (head 2 (length second) ++ second)) two at
+      ∙ put-at-append p 0 front (omega (arith, length-front)) (head 2 (length second) ++ second)
 
   pub probe-written : take (probeSize first second) p3 ≡ probeBytes kind first second
   unfolding bytesOf

@@ -11,12 +11,12 @@ use Rattle.model.specs.Number.{Bytes, bytes, number}
 use Rattle.model.specs.Run.{Run, done, item, value, bytesOf}
 use Rattle.model.specs.Kind.{kindNumber}
 use Rattle.model.specs.Record.{Rec, recordBytes}
-use Rattle.model.specs.Contents.{topic, shown, kept, topicRun, flagBytes}
+use Rattle.model.specs.Contents.{topic, returned, kept, topicRun, flagBytes}
 use Rattle.model.specs.Image.{entryOf}
 use Rattle.fields.proofs.Parse.{take-drop}
 use Rattle.records.specs.Answers.{head}
 use Rattle.laws_records.specs.Runs.{item-append}
-use Rattle.find.specs.Shown.{flagSize, shownBytes}
+use Rattle.find.specs.Returned.{flagSize, returnedBytes}
 
 -- 1. A topic
 
@@ -47,9 +47,9 @@ module _ (name id : Bytes) (count factor : ℕ) (named : Bool) where
   length-body = ap length body-flag ∙ length-append body bits ∙ ap (λ n. length body + n) (length-flag named)
 
   -- the bytes of the topic in an image, and of its record
-  pub topic-shown : recordBytes (shown (topic name id count factor named)) ≡ shownBytes (recordBytes (kept (topic name id count factor named)))
-  unfolding shown kept recordBytes shownBytes kindNumber
-  topic-shown =
+  pub topic-returned : recordBytes (returned (topic name id count factor named)) ≡ returnedBytes (recordBytes (kept (topic name id count factor named)))
+  unfolding returned kept recordBytes returnedBytes kindNumber
+  topic-returned =
       let whole = bytesOf (topicRun name id count factor (flag named)) in
       let e = head 1 (length whole) ++ whole in
       let n : length body ≡ length e - flagSize - 3 = omega (arith, length-body) in
@@ -59,22 +59,22 @@ module _ (name id : Bytes) (count factor : ℕ) (named : Bool) where
 
 -- 2. Any entry that stands as a record
 
-other-shown : (r : Rec) → eqb (kindNumber (r .kind)) 1 ≡ false → recordBytes r ≡ shownBytes (recordBytes r)
-unfolding shownBytes recordBytes
-other-shown r h = rw h
+other-returned : (r : Rec) → eqb (kindNumber (r .kind)) 1 ≡ false → recordBytes r ≡ returnedBytes (recordBytes r)
+unfolding returnedBytes recordBytes
+other-returned r h = rw h
 
-pub record-shown : (r : Rec) → kept (entryOf r) ≡ r → recordBytes (shown (entryOf r)) ≡ shownBytes (recordBytes r)
-record-shown r back = go (eqb (kindNumber (r .kind)) 1) refl (eqb (kindNumber (r .kind)) 2) refl
+pub record-returned : (r : Rec) → kept (entryOf r) ≡ r → recordBytes (returned (entryOf r)) ≡ returnedBytes (recordBytes r)
+record-returned r back = go (eqb (kindNumber (r .kind)) 1) refl (eqb (kindNumber (r .kind)) 2) refl
   where
     of-topic : (name id : Bytes) (count factor : ℕ) (named : Bool) → entryOf r ≡ topic name id count factor named
-        → recordBytes (shown (entryOf r)) ≡ shownBytes (recordBytes r)
+        → recordBytes (returned (entryOf r)) ≡ returnedBytes (recordBytes r)
     of-topic name id count factor named q =
-        ap (λ x. recordBytes (shown x)) q ∙ topic-shown name id count factor named ∙ ap (λ x. shownBytes (recordBytes x)) (ap kept (sym q) ∙ back)
+        ap (λ x. recordBytes (returned x)) q ∙ topic-returned name id count factor named ∙ ap (λ x. returnedBytes (recordBytes x)) (ap kept (sym q) ∙ back)
 
-    other : eqb (kindNumber (r .kind)) 1 ≡ false → shown (entryOf r) ≡ kept (entryOf r) → recordBytes (shown (entryOf r)) ≡ shownBytes (recordBytes r)
-    other e q = ap recordBytes (q ∙ back) ∙ other-shown r e
+    other : eqb (kindNumber (r .kind)) 1 ≡ false → returned (entryOf r) ≡ kept (entryOf r) → recordBytes (returned (entryOf r)) ≡ returnedBytes (recordBytes r)
+    other e q = ap recordBytes (q ∙ back) ∙ other-returned r e
 
-    go : (t : Bool) → eqb (kindNumber (r .kind)) 1 ≡ t → (p : Bool) → eqb (kindNumber (r .kind)) 2 ≡ p → recordBytes (shown (entryOf r)) ≡ shownBytes (recordBytes r)
+    go : (t : Bool) → eqb (kindNumber (r .kind)) 1 ≡ t → (p : Bool) → eqb (kindNumber (r .kind)) 2 ≡ p → recordBytes (returned (entryOf r)) ≡ returnedBytes (recordBytes r)
     go true e p f = of-topic (value 1 (r .run)) (value 2 (r .run)) (number (value 3 (r .run))) (number (value 4 (r .run))) (eqb (number (value 5 (r .run))) 1) (unfold entryOf in rw e)
-    go false e true f = other e (unfold entryOf shown kept in rw (e, f))
-    go false e false f = other e (unfold entryOf shown kept in rw (e, f))
+    go false e true f = other e (unfold entryOf returned kept in rw (e, f))
+    go false e false f = other e (unfold entryOf returned kept in rw (e, f))

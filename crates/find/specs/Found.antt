@@ -14,7 +14,7 @@ use Rattle.model.specs.Kind.{kindOf}
 use Rattle.model.specs.Record.{Rec}
 use Rattle.model.specs.Key.{keyOf}
 use Rattle.model.specs.Map.{get}
-use Rattle.model.specs.Contents.{key, kept, shown}
+use Rattle.model.specs.Contents.{key, kept, returned}
 use Rattle.model.specs.Image.{entryOf}
 use Rattle.model.specs.Lookup.{found}
 use Rattle.model.specs.declared.Kind.{Kind}
@@ -44,7 +44,7 @@ AllKept l = All (λ r. kept (entryOf r) ≡ r) l
 
 -- the record at a place, none where the place is empty
 unfoldable pub recordAt : Bytes → ℕ → ℕ → List Rec
-recordAt s at end = cond (ltb at end) (shown (entryOf (recordIn (slice at end s))) ∷ []) []
+recordAt s at end = cond (ltb at end) (returned (entryOf (recordIn (slice at end s))) ∷ []) []
 
 -- a place that is not empty has a record, which stands for its entry
 pub record Holds (s : Bytes) (at end : ℕ) : Type 0 where

@@ -1,4 +1,5 @@
 pub mod Found
 pub mod Probe
-pub mod Shown
+pub mod Returned
 pub mod Reals
+pub mod Logged

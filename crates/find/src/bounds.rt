@@ -13,5 +13,5 @@ pub fn reals_end(image: &[u8]) -> usize
     ensures { λ r. ⌜ Reals (now (image .entry)) r ⌝ }
 {
     let used = used_in(image);
-    HEAD_SIZE + tail_start(&image[64..used])
+    HEAD_SIZE + tail_start(&image[HEAD_SIZE..used])
 }

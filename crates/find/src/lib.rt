@@ -1,22 +1,25 @@
 // Entries by what a query names, and the answer that a lookup gives of one.
 mod bounds;
+mod brokers;
 mod query;
 mod show;
 
 pub use bounds::reals_end;
+pub use brokers::at_epoch;
+pub use brokers::stored_next;
 use entries::Place;
 use entries::seek;
 use model::NodeId;
+use model::answers::Answer;
 pub use query::probe;
-use records::Answer;
-pub use show::emit_shown;
-pub use show::put_shown;
-pub use show::shown_size;
+pub use show::emit_returned;
+pub use show::put_returned;
+pub use show::returned_size;
 ghost use mathlib.Core.Path.{_≡_};
 ghost use mathlib.Core.List.{[]};
 ghost use Rattle.model.specs.Number.{bytes};
 ghost use Rattle.model.specs.Snapshot.{emit};
-ghost use Rattle.records.specs.Answers.{replied};
+ghost use Rattle.model.specs.Answers.{replied};
 ghost use Rattle.entries.specs.Entries.{recordsIn, Entries, Placed};
 ghost use Rattle.find.specs.Found.{Query, queryKey, foundIn, AllKept, recordAt, PlaceHolds};
 
@@ -48,7 +51,7 @@ pub fn emit_place(s: &[u8], at: usize, end: usize, out: &mut [u8]) -> Answer
     ensures { λ r. ⌜ now (out .exit) ≡ emit (recordAt (now (s .entry)) at end) (now (out .entry)) .buffer ⌝ }
 {
     if at < end {
-        return emit_shown(&s[at..end], out);
+        return emit_returned(&s[at..end], out);
     }
     Answer::Used(0)
 }

@@ -1,21 +1,22 @@
 // A stored entry as the record that it is returned as: its own bytes, but of a topic without its last field.
-use records::Answer;
+use model::answers::Answer;
+use model::refusals::TOO_SHORT;
 use records::put_head;
-use shape_faults::TOO_SHORT;
 ghost use mathlib.Core.Path.{_≡_};
 ghost use Prim.Native.Nat.{_+_, _≤_};
 ghost use lib.ListN.{length};
 ghost use Rattle.model.specs.Reply.{emitBytes};
-ghost use Rattle.records.specs.Answers.{replied, written};
-ghost use Rattle.find.specs.Shown.{Entire, shownSize, shownBytes};
+ghost use Rattle.model.specs.Answers.{replied};
+ghost use Rattle.records.specs.Answers.{putAt};
+ghost use Rattle.find.specs.Returned.{Entire, returnedSize, returnedBytes};
 
 // The bytes of a topic's last field: whether the id index names it.
 const FLAG_SIZE: usize = 8;
 
 // How long an entry's record is.
-pub fn shown_size(e: &[u8]) -> usize
+pub fn returned_size(e: &[u8]) -> usize
     requires { ⌜ Entire (now e) ⌝ }
-    ensures { λ r. ⌜ r ≡ shownSize (now (e .entry)) ⌝ }
+    ensures { λ r. ⌜ r ≡ returnedSize (now (e .entry)) ⌝ }
 {
     if e[0] == 1 {
         return e.len() - FLAG_SIZE;
@@ -24,9 +25,9 @@ pub fn shown_size(e: &[u8]) -> usize
 }
 
 // Writes an entry's record at `at`.
-pub fn put_shown(out: &mut [u8], at: usize, e: &[u8])
-    requires { ⌜ Entire (now e) × (at + shownSize (now e) ≤ length (now out)) ⌝ }
-    ensures { λ _. ⌜ now (out .exit) ≡ written (now (out .entry)) at (shownBytes (now (e .entry))) ⌝ }
+pub fn put_returned(out: &mut [u8], at: usize, e: &[u8])
+    requires { ⌜ Entire (now e) × (at + returnedSize (now e) ≤ length (now out)) ⌝ }
+    ensures { λ _. ⌜ now (out .exit) ≡ putAt (now (out .entry)) at (returnedBytes (now (e .entry))) ⌝ }
 {
     if e[0] == 1 {
         let end = e.len() - FLAG_SIZE;
@@ -38,15 +39,15 @@ pub fn put_shown(out: &mut [u8], at: usize, e: &[u8])
 }
 
 // Writes an entry's record to the start of an output. The bytes written, or 19 and nothing is written.
-pub fn emit_shown(e: &[u8], out: &mut [u8]) -> Answer
+pub fn emit_returned(e: &[u8], out: &mut [u8]) -> Answer
     requires { ⌜ Entire (now e) ⌝ }
-    ensures { λ r. ⌜ replied r ≡ emitBytes (shownBytes (now (e .entry))) (now (out .entry)) .reply ⌝ }
-    ensures { λ r. ⌜ now (out .exit) ≡ emitBytes (shownBytes (now (e .entry))) (now (out .entry)) .buffer ⌝ }
+    ensures { λ r. ⌜ replied r ≡ emitBytes (returnedBytes (now (e .entry))) (now (out .entry)) .reply ⌝ }
+    ensures { λ r. ⌜ now (out .exit) ≡ emitBytes (returnedBytes (now (e .entry))) (now (out .entry)) .buffer ⌝ }
 {
-    let n = shown_size(e);
+    let n = returned_size(e);
     if out.len() < n {
         return Answer::Refused(TOO_SHORT);
     }
-    put_shown(out, 0, e);
+    put_returned(out, 0, e);
     Answer::Used(n)
 }

@@ -10,7 +10,8 @@ use Rattle.model.specs.Number.{Bytes, span}
 use Rattle.model.specs.Contents.{fresh}
 use Rattle.model.specs.Image.{isCapacity, zeros, header, headSize, entryBytes, imageOf, openOf}
 use Rattle.laws_image.specs.Tests.{capacity-least}
-use Rattle.header.specs.Header.{fixedOf, numbered}
+use Rattle.model.specs.Answers.{numberReply}
+use Rattle.header.specs.Header.{fixedOf}
 
 drop-zeros : (k n : ℕ) → drop k (zeros n) ≡ zeros (n - k)
 drop-zeros zero n = let e : n ≡ n - 0 = omega arith in ap zeros e
@@ -22,7 +23,7 @@ unfolding imageOf entryBytes
 fresh-image n = ap (λ t. t ++ zeros (n - headSize)) (sym (append-nil (header headSize (fixedOf (span 8 - 1) 0))))
 
 module _ (b : Bytes) {k : Bool} (ek : k ≡ isCapacity (length b)) where
-  pub open-refused : not k ≡ true → (numbered 1 ≡ openOf b .reply) × (b ≡ openOf b .buffer)
+  pub open-refused : not k ≡ true → (numberReply 1 ≡ openOf b .reply) × (b ≡ openOf b .buffer)
   unfolding openOf
   open-refused h = rw (← ek, not-true k h) (refl, refl)
 
@@ -31,7 +32,7 @@ module _ (b : Bytes) {k : Bool} (ek : k ≡ isCapacity (length b)) where
     head-fits = let l = capacity-least (length b) (sym ek ∙ not-false k h) in rw (ev, length-replicate) (omega arith)
 
     pub opened : {w : Bytes} → w ≡ header headSize (fixedOf (span 8 - 1) 0) ++ drop headSize v
-        → (numbered 0 ≡ openOf b .reply) × (w ≡ openOf b .buffer)
+        → (numberReply 0 ≡ openOf b .reply) × (w ≡ openOf b .buffer)
     unfolding openOf
     opened {w} ew =
         let rest : drop headSize v ≡ zeros (length b - headSize) = ap (drop headSize) ev ∙ drop-zeros headSize (length b) in

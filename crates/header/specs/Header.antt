@@ -9,14 +9,9 @@ use Rattle.model.specs.Number.{Bytes}
 use Rattle.model.specs.Order.{sameBytes}
 use Rattle.model.specs.Contents.{Fixed}
 use Rattle.model.specs.Image.{mark}
-use Rattle.model.specs.Reply.{Reply}
 
 abbrev pub fixedOf : ℕ → ℕ → Fixed
 fixedOf epoch kraft = record { epoch = epoch; kraft = kraft }
-
--- 01's number alone
-abbrev pub numbered : ℕ → Reply
-numbered n = record { number = n; values = [] }
 
 -- the bytes of the header that no number fills
 abbrev pub frontOk : Bytes → Bool

@@ -1,11 +1,13 @@
 // The header of an image: its mark and version, the used length, the features epoch and the kraft version. And Open, which writes a fresh one.
+use model::refusals::NO_IMAGE;
 ghost use mathlib.Core.Path.{_≡_};
 ghost use mathlib.Core.List.{_++_};
 ghost use Prim.Native.Nat.{_<_, _≤_};
 ghost use lib.ListN.{length, drop};
 ghost use Rattle.model.specs.Number.{span};
 ghost use Rattle.model.specs.Image.{isCapacity, headSize, header, usedIn, fixedIn, headerOk, openOf};
-ghost use Rattle.header.specs.Header.{fixedOf, numbered, frontOk};
+ghost use Rattle.model.specs.Answers.{numberReply};
+ghost use Rattle.header.specs.Header.{fixedOf, frontOk};
 
 // The header's size, and the least and the greatest capacity.
 pub const HEAD_SIZE: usize = 64;
@@ -16,9 +18,6 @@ const MOST_CAPACITY: usize = 65536;
 
 // The epoch before any, -1, by its bytes.
 pub const NO_EPOCH: u64 = 0xffff_ffff_ffff_ffff;
-
-// Refusal 1: no image, or for Open no capacity.
-pub const NO_IMAGE: u8 = 1;
 
 // Whether a buffer of `n` bytes can hold an image.
 pub fn is_capacity(n: usize) -> bool
@@ -62,7 +61,7 @@ fn front_ok(b: &[u8]) -> bool
     if !wire::is_clear(&b[12..16]) {
         return false;
     }
-    wire::is_clear(&b[26..64])
+    wire::is_clear(&b[26..HEAD_SIZE])
 }
 
 // Whether the header stands, its used length is within the bytes, and the bytes past it are zero.
@@ -98,7 +97,7 @@ pub fn put_header(b: &mut [u8], used: usize, epoch: u64, kraft: u64)
 
 // Open: a fresh image in a buffer of 128 to 65,536 bytes, whatever it held. 0, or 1 and nothing is changed.
 pub fn open(b: &mut [u8]) -> u8
-    ensures { λ r. ⌜ numbered r ≡ openOf (now (b .entry)) .reply ⌝ }
+    ensures { λ r. ⌜ numberReply r ≡ openOf (now (b .entry)) .reply ⌝ }
     ensures { λ _. ⌜ now (b .exit) ≡ openOf (now (b .entry)) .buffer ⌝ }
 {
     if !is_capacity(b.len()) {

@@ -15,7 +15,7 @@ use Rattle.model.specs.Key.{rank, keyRank, keyOf, topicKey, partitionKey, nodeK
 use Rattle.model.specs.Map.{put, get}
 use Rattle.model.specs.Contents.{Entry, topic, part, plain, key, recordKey, Fixed, Contents, partitions}
 use Rattle.model.specs.Move.{Move, putM, dropM, joinM, leaveM, topicM, partM, directoriesM, deleteM, bumpM, epochM, kraftM}
-use Rattle.model.specs.Move.{unname, unnameOld, countOf, partitionTopic, replicas, nodeCount, setDirectories, apartFrom}
+use Rattle.model.specs.Move.{clearNamed, clearOldNamed, countOf, partitionTopic, replicas, nodeCount, setDirectories, apartFrom}
 use Rattle.model.specs.Move.{onReal, bumped, onFixed, move, moves, setOrDrop, joinOrLeave, elrMove, recoveryMove, updateMoves}
 use Rattle.model.specs.Move.{runAt, brokerAt, atEpoch, orDone, storedNext, isAbove, elrRec, recoveryRec, changedBroker, slotOf, directoryMoves}
 use Rattle.model.specs.Move.{sortedQuota, plan, moved}
@@ -28,7 +28,7 @@ use Rattle.laws.specs.Lists.{All, all-append, all-map}
 use Rattle.laws.specs.Map.{Asc, all-put, all-remove, all-keep}
 use Rattle.laws_image.specs.Snapshot.{Loggable}
 use Rattle.laws_image.specs.Groups.{Grouped, config, quota}
-use Rattle.laws_apply.specs.Entries.{key-unname, key-unname-old, told, key-told, key-directories}
+use Rattle.laws_apply.specs.Entries.{key-clear-named, key-clear-old-named, told, key-told, key-directories}
 use Rattle.laws_apply.specs.Topics.{Elsewhere, storable-elsewhere}
 use Rattle.laws_apply.specs.Lawful.{Puts, Lawful}
 use Rattle.laws_apply.specs.Moves.{Holds, move-holds}
@@ -64,16 +64,16 @@ no-levels-move (dropM k) h l u = all-remove key (λ e. isLevel (key e) ≡ false
 no-levels-move (leaveM r) h l u = all-remove key (λ e. isLevel (key e) ≡ false) (recordKey r) l u
 no-levels-move (topicM name id factor) h l u =
     let old = get key (topicKey name) l in
-    let others = map (unnameOld old) l in
-    all-put key (λ e. isLevel (key e) ≡ false) (topic name id (countOf old) factor true) (map (unname id) others)
-    (no-levels-map (unname id) (key-unname id) others (no-levels-map (unnameOld old) (key-unname-old old) l u)) refl
+    let others = map (clearOldNamed old) l in
+    all-put key (λ e. isLevel (key e) ≡ false) (topic name id (countOf old) factor true) (map (clearNamed id) others)
+    (no-levels-map (clearNamed id) (key-clear-named id) others (no-levels-map (clearOldNamed old) (key-clear-old-named old) l u)) refl
 no-levels-move (partM r) h l u =
     all-put key (λ e. isLevel (key e) ≡ false) (part r) (map (told r l) l) (no-levels-map (told r l) (key-told r l) l u) refl
 no-levels-move (directoriesM k v) h l u = no-levels-map (setDirectories k v) (key-directories k v) l u
 no-levels-move (deleteM name) h l u =
     let old = get key (topicKey name) l in
-    all-keep key (λ e. isLevel (key e) ≡ false) (apartFrom name) (map (unnameOld old) l)
-    (no-levels-map (unnameOld old) (key-unname-old old) l u)
+    all-keep key (λ e. isLevel (key e) ≡ false) (apartFrom name) (map (clearOldNamed old) l)
+    (no-levels-map (clearOldNamed old) (key-clear-old-named old) l u)
 no-levels-move bumpM h l u = u
 no-levels-move (epochM e) h l u = u
 no-levels-move (kraftM v) h l u = u

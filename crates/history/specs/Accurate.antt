@@ -14,7 +14,7 @@ use Rattle.model.specs.Run.{Run, value}
 use Rattle.model.specs.Key.{rank, subject, keyOf, topicKey, keyRank, keyName, topicOf}
 use Rattle.model.specs.Map.{put, get, remove, keep}
 use Rattle.model.specs.Contents.{Entry, topic, part, plain, key, ofTopic, partitions}
-use Rattle.model.specs.Move.{topicM, partM, directoriesM, deleteM, unname, unnameOld, countOf, tell, partitionTopic, replicas, nodeCount}
+use Rattle.model.specs.Move.{topicM, partM, directoriesM, deleteM, clearNamed, clearOldNamed, countOf, countPartition, partitionTopic, replicas, nodeCount}
 use Rattle.model.specs.Move.{setDirectories, apartFrom, onReal}
 use Rattle.model.specs.Validate.{topicExists, unknownTopic}
 use Rattle.model.specs.declared.Kind.the-variants.{Partition}
@@ -24,7 +24,7 @@ use Rattle.laws.specs.Lists.{all-imp}
 use Rattle.laws.specs.Map.{Asc, map-asc, get-put-same, get-put-other, get-remove-other, keep-all, get-keep, get-map, get-in}
 use Rattle.laws.specs.Count.{count-put, count-put-other, count-remove-other, count-keep, count-none, count-map}
 use Rattle.laws_restore.specs.Settled.{other-rank}
-use Rattle.laws_apply.specs.Entries.{key-unname, key-unname-old, added, told, key-told, key-directories}
+use Rattle.laws_apply.specs.Entries.{key-clear-named, key-clear-old-named, added, told, key-told, key-directories}
 use Rattle.laws_apply.specs.Topics.{Elsewhere}
 use Rattle.history.specs.Good.{Premises, Agree, Accurate}
 
@@ -43,7 +43,7 @@ part-key-apart name r e = let q = ap keyRank e in omega arith
 module _ (l : List Entry) (r : Run) (accurate : Accurate l) (known : unknownTopic (get key (topicKey (partitionTopic r)) l) ≡ 0) where
   told-agrees : (name : Bytes) (o : Option Entry) → get key (topicKey name) l ≡ o → Agree o (partitions name l)
       → Agree (over (told r l) o) (partitions name l + cond (sameBytes (partitionTopic r) name) (added r l) 0)
-  unfolding tell key
+  unfolding countPartition key
   told-agrees name none e h = go (sameBytes (partitionTopic r) name) refl
     where
       go : (b : Bool) → sameBytes (partitionTopic r) name ≡ b → partitions name l + cond b (added r l) 0 ≡ 0
@@ -75,26 +75,26 @@ module _ (l : List Entry) (r : Run) (accurate : Accurate l) (known : unknownTopi
 
 -- 3. A topic's id is taken from others: they keep their names, ids, counts and factors, and where they have another id, all
 
-unname-other : (id name i : Bytes) (n f : ℕ) (p : Bool) → sameBytes i id ≡ false → unname id (topic name i n f p) ≡ topic name i n f p
-unfolding unname
-unname-other id name i n f p h = rw h
+clear-named-other : (id name i : Bytes) (n f : ℕ) (p : Bool) → sameBytes i id ≡ false → clearNamed id (topic name i n f p) ≡ topic name i n f p
+unfolding clearNamed
+clear-named-other id name i n f p h = rw h
 
-unname-old-other : (o : Option Entry) (name i : Bytes) (n f : ℕ) (p : Bool)
+clear-old-named-other : (o : Option Entry) (name i : Bytes) (n f : ℕ) (p : Bool)
     → ((b j : Bytes) (m g : ℕ) (q : Bool) → o ≡ some (topic b j m g q) → sameBytes i j ≡ false)
-    → unnameOld o (topic name i n f p) ≡ topic name i n f p
-unfolding unnameOld
-unname-old-other none name i n f p h = refl
-unname-old-other (some (topic b j m g q)) name i n f p h = unname-other j name i n f p (h b j m g q refl)
-unname-old-other (some (part r)) name i n f p h = refl
-unname-old-other (some (plain r)) name i n f p h = refl
+    → clearOldNamed o (topic name i n f p) ≡ topic name i n f p
+unfolding clearOldNamed
+clear-old-named-other none name i n f p h = refl
+clear-old-named-other (some (topic b j m g q)) name i n f p h = clear-named-other j name i n f p (h b j m g q refl)
+clear-old-named-other (some (part r)) name i n f p h = refl
+clear-old-named-other (some (plain r)) name i n f p h = refl
 
-unname-topic : (id : Bytes) (o : Option Entry) (name i : Bytes) (n f : ℕ) (p : Bool)
-    → (q : Bool) × (unname id (unnameOld o (topic name i n f p)) ≡ topic name i n f q)
-unfolding unname unnameOld
-unname-topic id none name i n f p = (_, refl)
-unname-topic id (some (topic b j m g q)) name i n f p = (_, refl)
-unname-topic id (some (part r)) name i n f p = (_, refl)
-unname-topic id (some (plain r)) name i n f p = (_, refl)
+clear-named-topic : (id : Bytes) (o : Option Entry) (name i : Bytes) (n f : ℕ) (p : Bool)
+    → (q : Bool) × (clearNamed id (clearOldNamed o (topic name i n f p)) ≡ topic name i n f q)
+unfolding clearNamed clearOldNamed
+clear-named-topic id none name i n f p = (_, refl)
+clear-named-topic id (some (topic b j m g q)) name i n f p = (_, refl)
+clear-named-topic id (some (part r)) name i n f p = (_, refl)
+clear-named-topic id (some (plain r)) name i n f p = (_, refl)
 
 agree-count : (o : Option Entry) (n : ℕ) → Agree o n → countOf o ≡ n
 unfolding countOf
@@ -129,14 +129,14 @@ module _ (l : List Entry) (name id : Bytes) (factor : ℕ) (accurate : Accurate 
   mine = topic name id (countOf old) factor true
 
   abbrev others : List Entry
-  others = map (unname id) (map (unnameOld old) l)
+  others = map (clearNamed id) (map (clearOldNamed old) l)
 
-  topic-get : (a : Bytes) → (a ≡ name → ⊥) → get key (topicKey a) after ≡ over (unname id) (over (unnameOld old) (get key (topicKey a) l))
+  topic-get : (a : Bytes) → (a ≡ name → ⊥) → get key (topicKey a) after ≡ over (clearNamed id) (over (clearOldNamed old) (get key (topicKey a) l))
   unfolding onReal key
   topic-get a h =
       get-put-other key (topicKey a) mine (λ e. h (same-name a name e)) others
-      ∙ get-map key key (unname id) (key-unname id) (topicKey a) (map (unnameOld old) l)
-      ∙ ap (over (unname id)) (get-map key key (unnameOld old) (key-unname-old old) (topicKey a) l)
+      ∙ get-map key key (clearNamed id) (key-clear-named id) (topicKey a) (map (clearOldNamed old) l)
+      ∙ ap (over (clearNamed id)) (get-map key key (clearOldNamed old) (key-clear-old-named old) (topicKey a) l)
 
   topic-here : get key (topicKey name) after ≡ some mine
   unfolding onReal key
@@ -146,30 +146,30 @@ module _ (l : List Entry) (name id : Bytes) (factor : ℕ) (accurate : Accurate 
   unfolding onReal key partitions ofTopic keyRank rank
   topic-partitions a =
       count-put-other key (ofTopic a) mine refl others
-      ∙ count-map key key (unname id) (key-unname id) (ofTopic a) (map (unnameOld old) l)
-      ∙ count-map key key (unnameOld old) (key-unname-old old) (ofTopic a) l
+      ∙ count-map key key (clearNamed id) (key-clear-named id) (ofTopic a) (map (clearOldNamed old) l)
+      ∙ count-map key key (clearOldNamed old) (key-clear-old-named old) (ofTopic a) l
 
   topic-agrees : (a : Bytes) → (a ≡ name → ⊥) → (o : Option Entry) → get key (topicKey a) l ≡ o → Agree o (partitions a l)
-      → Agree (over (unname id) (over (unnameOld old) o)) (partitions a l)
+      → Agree (over (clearNamed id) (over (clearOldNamed old) o)) (partitions a l)
   unfolding key
   topic-agrees a h none e agrees = agrees
   topic-agrees a h (some (part r)) e agrees = absurd agrees
   topic-agrees a h (some (plain r)) e agrees = absurd agrees
   topic-agrees a h (some (topic b i n f p)) e agrees = go (sameBytes i id) refl
     where
-      go : (s : Bool) → sameBytes i id ≡ s → Agree (some (unname id (unnameOld old (topic b i n f p)))) (partitions a l)
+      go : (s : Bool) → sameBytes i id ≡ s → Agree (some (clearNamed id (clearOldNamed old (topic b i n f p)))) (partitions a l)
       go true q =
-          let kept = unname-topic id old b i n f p in
+          let kept = clear-named-topic id old b i n f p in
           let there : get key (topicKey a) after ≡ some (topic b i n f (kept .0)) =
-          topic-get a h ∙ ap (λ o. over (unname id) (over (unnameOld old) o)) e ∙ ap some (kept .1) in
+          topic-get a h ∙ ap (λ o. over (clearNamed id) (over (clearOldNamed old) o)) e ∙ ap some (kept .1) in
           let its = get-in key (topicKey a) after (topic b i n f (kept .0)) there .0 in
           let own = get-in key (topicKey name) after mine topic-here .0 in
           let named-a = same-name b a (get-in key (topicKey a) l (topic b i n f p) e .1) in
           let one = premise .ids b name i id n (countOf old) f factor (kept .0) true (sameBytes-true i id q) its own in
           absurd (h (sym named-a ∙ one))
       go false q =
-          let same : unname id (unnameOld old (topic b i n f p)) ≡ topic b i n f p =
-          ap (unname id) (unname-old-other old b i n f p (λ c j m g r w. rw (← keeps c j m g r w) q)) ∙ unname-other id b i n f p q in
+          let same : clearNamed id (clearOldNamed old (topic b i n f p)) ≡ topic b i n f p =
+          ap (clearNamed id) (clear-old-named-other old b i n f p (λ c j m g r w. rw (← keeps c j m g r w) q)) ∙ clear-named-other id b i n f p q in
           rw same agrees
 
   pub topic-accurate : Accurate (onReal (topicM name id factor) l)
@@ -212,22 +212,22 @@ module _ (l : List Entry) (ascends : Asc key l) (name : Bytes) (accurate : Accur
   gone = get key (topicKey name) l
 
   abbrev left : List Entry
-  left = map (unnameOld gone) l
+  left = map (clearOldNamed gone) l
 
   delete-get : (a : Bytes)
-      → get key (topicKey a) (onReal (deleteM name) l) ≡ cond (not (sameBytes a name)) (over (unnameOld gone) (get key (topicKey a) l)) none
+      → get key (topicKey a) (onReal (deleteM name) l) ≡ cond (not (sameBytes a name)) (over (clearOldNamed gone) (get key (topicKey a) l)) none
   unfolding onReal apartFrom topicOf keyRank keyName rank
   delete-get a =
-      get-keep key (apartFrom name) (topicKey a) left (map-asc key key (unnameOld gone) (key-unname-old gone) l ascends)
-      ∙ ap (λ o. cond (not (sameBytes a name)) o none) (get-map key key (unnameOld gone) (key-unname-old gone) (topicKey a) l)
+      get-keep key (apartFrom name) (topicKey a) left (map-asc key key (clearOldNamed gone) (key-clear-old-named gone) l ascends)
+      ∙ ap (λ o. cond (not (sameBytes a name)) o none) (get-map key key (clearOldNamed gone) (key-clear-old-named gone) (topicKey a) l)
 
   delete-agrees : (a : Bytes) → (a ≡ name → ⊥) → (o : Option Entry) → get key (topicKey a) l ≡ o → Agree o (partitions a l)
-      → Agree (over (unnameOld gone) o) (partitions a l)
+      → Agree (over (clearOldNamed gone) o) (partitions a l)
   unfolding key
   delete-agrees a h none e agrees = agrees
   delete-agrees a h (some (part r)) e agrees = absurd agrees
   delete-agrees a h (some (plain r)) e agrees = absurd agrees
-  delete-agrees a h (some (topic b i n f p)) e agrees = rw (unname-old-other gone b i n f p apart) agrees
+  delete-agrees a h (some (topic b i n f p)) e agrees = rw (clear-old-named-other gone b i n f p apart) agrees
     where
       apart : (c j : Bytes) (m g : ℕ) (q : Bool) → gone ≡ some (topic c j m g q) → sameBytes i j ≡ false
       apart c j m g q w = apart-sameBytes i j λ same.
@@ -247,10 +247,10 @@ module _ (l : List Entry) (ascends : Asc key l) (name : Bytes) (accurate : Accur
       all-left : sameBytes a name ≡ false → partitions a (onReal (deleteM name) l) ≡ partitions a l
       all-left q = unfold onReal partitions in
           count-keep key (ofTopic a) (apartFrom name) (part-stays name a q) left
-          ∙ count-map key key (unnameOld gone) (key-unname-old gone) (ofTopic a) l
+          ∙ count-map key key (clearOldNamed gone) (key-clear-old-named gone) (ofTopic a) l
 
       go : (b : Bool) → sameBytes a name ≡ b
-          → Agree (cond (not b) (over (unnameOld gone) (get key (topicKey a) l)) none) (partitions a (onReal (deleteM name) l))
+          → Agree (cond (not b) (over (clearOldNamed gone) (get key (topicKey a) l)) none) (partitions a (onReal (deleteM name) l))
       go true q = rw (sameBytes-true a name q) none-left
       go false q = rw (all-left q) (delete-agrees a (sameBytes-false a name q) (get key (topicKey a) l) refl (accurate a))
 

@@ -21,7 +21,7 @@ use Rattle.model.specs.History.{said, wrote, admitted, answer, after, isCut, pr
 use Rattle.model.specs.declared.Kind.the-variants.{FeaturesEpoch}
 use Rattle.laws.specs.Choice.{impossible, true-false}
 use Rattle.laws_apply.specs.MovedFits.{fits-holds, contentsAfter}
-use Rattle.laws_apply.specs.Apply.{numberOf}
+use Rattle.laws_apply.specs.Apply.{refusalNumber}
 use Rattle.history.specs.Like.{Like}
 use Rattle.history.specs.Good.{Premises, premises-hold, Good, like-restored}
 use Rattle.history.specs.Answers.{Alike, same-topic, same-topic-id, same-partition, same-broker, same-epoch, same-short, same-freeze}
@@ -58,7 +58,7 @@ StepHolds s image = (meetsAt epochs s image ≡ true) × (meetsAt room s image �
 
 -- 2. A step that both histories have
 
-same-number : {P : Contents → Contents → Type 0} {a b : Applied} → Matched P a b → numberOf b ≡ numberOf a
+same-number : {P : Contents → Contents → Type 0} {a b : Applied} → Matched P a b → refusalNumber b ≡ refusalNumber a
 same-number (both-stay n) = refl
 same-number (both-become p) = refl
 

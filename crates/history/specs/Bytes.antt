@@ -26,7 +26,7 @@ use Rattle.laws_image.specs.Open.{open-length, open-image}
 use Rattle.laws_restore.specs.RestoredFits.{restored-fits}
 use Rattle.laws_restore.specs.Cut.{cut-becomes-restored}
 use Rattle.laws_apply.specs.MovedFits.{contentsAfter}
-use Rattle.laws_apply.specs.Apply.{numberOf, apply-unread, apply-read}
+use Rattle.laws_apply.specs.Apply.{refusalNumber, apply-unread, apply-read}
 use Rattle.history.specs.Offered.{validated, applied, offered, IsRead, offered-fits}
 
 -- 1. A step, of contents
@@ -205,23 +205,23 @@ reached-image capacity (s ∷ steps) image h k = reached-image capacity steps (a
 abbrev pub verdictOf : ℕ → ℕ → Answer
 verdictOf n m = verdict (refused n) (cond (eqb n 0) (some (refused m)) none)
 
-laid-reply : (image : Bytes) (a : Applied) → laid image a .reply ≡ refused (numberOf a)
+laid-reply : (image : Bytes) (a : Applied) → laid image a .reply ≡ refused (refusalNumber a)
 laid-reply image (stays n) = refl
 laid-reply image (becomes c) = refl
 
 pub judged-offered : (capacity : ℕ) (image : Bytes) → Image capacity image → (input : Bytes)
     → let g = read logged input in
-    judged input image ≡ verdictOf (validated g (contentsOf image)) (numberOf (offered capacity g (contentsOf image)))
+    judged input image ≡ verdictOf (validated g (contentsOf image)) (refusalNumber (offered capacity g (contentsOf image)))
 judged-offered capacity image h input =
     let c = contentsOf image in
     let g = read logged input in
-    let replied : applyOf image input .reply ≡ refused (numberOf (applied capacity g c)) =
+    let replied : applyOf image input .reply ≡ refused (refusalNumber (applied capacity g c)) =
     ap (λ e. e .reply) (apply-laid image input (h .is)) ∙ laid-reply image (applied (length image) g c)
-    ∙ ap (λ n. refused (numberOf (applied n g c))) (h .size) in
+    ∙ ap (λ n. refused (refusalNumber (applied n g c))) (h .size) in
     rw (validate-contents image input (h .is), replied) (go (validated g c) (applied capacity g c) (eqb (validated g c) 0))
   where
     go : (n : ℕ) (a : Applied) (b : Bool)
-        → verdict (refused n) (cond b (some (refused (numberOf a))) none)
-        ≡ verdict (refused n) (cond b (some (refused (numberOf (cond b a (stays n))))) none)
+        → verdict (refused n) (cond b (some (refused (refusalNumber a))) none)
+        ≡ verdict (refused n) (cond b (some (refused (refusalNumber (cond b a (stays n))))) none)
     go n a true = refl
     go n a false = refl

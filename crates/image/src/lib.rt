@@ -1,5 +1,6 @@
 // The exact test: whether a buffer is an image.
 use entries::seek;
+use header::HEAD_SIZE;
 use header::header_ok;
 use header::is_capacity;
 use header::used_in;
@@ -100,8 +101,8 @@ pub fn is_image(b: &[u8]) -> bool
     }
     let used = used_in(b);
     let rows = all_rows();
-    if !all_read(&rows, &b[64..used]) {
+    if !all_read(&rows, &b[HEAD_SIZE..used]) {
         return false;
     }
-    entries_ok(&b[64..used], b.len())
+    entries_ok(&b[HEAD_SIZE..used], b.len())
 }

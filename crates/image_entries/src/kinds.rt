@@ -2,7 +2,7 @@
 use crate::types::types_in_order;
 use crate::values::has;
 use crate::values::is_empty;
-use crate::values::number_of;
+use crate::values::value_number;
 ghost use mathlib.Core.Path.{_≡_};
 ghost use mathlib.Core.Bool.{_&&_, not};
 ghost use lib.Dec.{ltb};
@@ -48,7 +48,7 @@ fn flag_reads(e: &[u8]) -> bool
     if e[0] != 1 {
         return true;
     }
-    number_of(e, 5, 5) <= 1
+    value_number(e, 5, 5) <= 1
 }
 
 // Whether a signed number is above 0.
@@ -75,21 +75,21 @@ pub fn is_storable(e: &[u8]) -> bool
         5 => has(e, 2),
         6 => has(e, 3),
         7 => has(e, 3) && types_in_order(e),
-        8 => is_positive(number_of(e, 3, 8)),
+        8 => is_positive(value_number(e, 3, 8)),
         9 => false,
         10 => false,
-        11 => number_of(e, 2, 2) != 0,
+        11 => value_number(e, 2, 2) != 0,
         12 => has(e, 2),
         13 => false,
         14 => false,
         15 => true,
         16 => has(e, 2),
         17 => true,
-        18 => number_of(e, 3, 1) == 1,
+        18 => value_number(e, 3, 1) == 1,
         19 => true,
         20 => false,
         21 => !is_empty(e, 3) || !is_empty(e, 4),
-        22 => number_of(e, 3, 1) != 0,
+        22 => value_number(e, 3, 1) != 0,
         23 => false,
         24 => false,
         25 => false,

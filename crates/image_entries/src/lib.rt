@@ -10,7 +10,7 @@ use kinds::is_group;
 pub use kinds::is_storable;
 use kinds::is_stored;
 pub use values::has;
-pub use values::number_of;
+pub use values::value_number;
 ghost use mathlib.Core.Path.{_≡_};
 ghost use Rattle.model.specs.Choice.{every};
 ghost use Rattle.model.specs.Contents.{isGroup};

@@ -34,7 +34,7 @@ pub fn is_empty(e: &[u8], tag: usize) -> bool
 }
 
 // The number that a field spells, by its width.
-pub fn number_of(e: &[u8], tag: usize, width: usize) -> u64
+pub fn value_number(e: &[u8], tag: usize, width: usize) -> u64
     requires { ⌜ IsRecord (now e) × (width ≤ 8) × (length (value tag (recordIn (now e) .run)) ≡ width) ⌝ }
     ensures { λ r. ⌜ r ≡ number (value tag (recordIn (now (e .entry)) .run)) ⌝ }
 {

@@ -14,9 +14,10 @@ use Rattle.model.specs.Items.{item, itemsFrom, itemsOf, isWhole}
 use Rattle.laws_records.specs.Records.{reads}
 use Rattle.laws_records.specs.Items.{items-got, items-bad}
 use Rattle.keys.proofs.Found.{lent-slice, slice-rest}
-use Rattle.records.specs.Answers.{replied, gotReply}
-use Rattle.records.specs.declared.Answer.{Answer}
-use Rattle.records.specs.declared.Answer.the-variants.{Used, Refused}
+use Rattle.model.specs.Answers.{replied}
+use Rattle.records.specs.Answers.{gotReply}
+use Rattle.model.specs.declared.answers.Answer.{Answer}
+use Rattle.model.specs.declared.answers.Answer.the-variants.{Used, Refused}
 use Rattle.records.proofs.Replies.{used-got, refused-bad}
 
 -- 1. What is read

@@ -3,7 +3,7 @@ use entries::Cursor;
 use entries::Step;
 use keys::compare_keys;
 use model::Order;
-use records::Answer;
+use model::answers::Answer;
 use records::read_from;
 ghost use mathlib.Core.Path.{_≡_};
 ghost use Rattle.model.specs.Shape.{stored};

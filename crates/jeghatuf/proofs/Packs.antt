@@ -5,21 +5,19 @@ use mathlib.Core.List.{List, [], _∷_}
 use Prim.Native.Nat.{ℕ, _+_, _*_}
 use native.Mathlib.Omega.{arith}
 use Rattle.model.specs.Reply.{Reply}
-use Rattle.header.specs.Header.{numbered}
-use Rattle.lookup.specs.Values.{valued, rating}
-use Rattle.lookup.specs.declared.Value.{Value}
-use Rattle.lookup.specs.declared.Value.the-variants.{Is, Refused}
-use Rattle.lookup.specs.declared.Rated.{Rated}
-use Rattle.lookup.specs.declared.Rated.the-variants as rated
-use Rattle.lookup.specs.declared.Rated.the-variants.{Rate, None}
-use Rattle.restore.specs.Restore.{restored}
-use Rattle.restore.specs.declared.Restored.{Restored}
-use Rattle.restore.specs.declared.Restored.the-variants as end
+use Rattle.model.specs.Answers.{numberReply, valued, rating, restoreReply}
+use Rattle.model.specs.declared.answers.Value.{Value}
+use Rattle.model.specs.declared.answers.Value.the-variants.{Is, Refused}
+use Rattle.model.specs.declared.answers.Rated.{Rated}
+use Rattle.model.specs.declared.answers.Rated.the-variants as rated
+use Rattle.model.specs.declared.answers.Rated.the-variants.{Rate, None}
+use Rattle.model.specs.declared.answers.Restored.{Restored}
+use Rattle.model.specs.declared.answers.Restored.the-variants as end
 use Rattle.packing.specs.Packed.{packed, firstIs, counted, widened}
 
 -- a number alone
-pub packed-number : {n x : ℕ} {r : Reply} → x ≡ n * 4294967296 → numbered n ≡ r → x ≡ packed r
-packed-number {n} {x} e q = let k : x ≡ packed (numbered n) = omega (arith, e) in k ∙ ap packed q
+pub packed-number : {n x : ℕ} {r : Reply} → x ≡ n * 4294967296 → numberReply n ≡ r → x ≡ packed r
+packed-number {n} {x} e q = let k : x ≡ packed (numberReply n) = omega (arith, e) in k ∙ ap packed q
 
 pub one-zero : {a b : Bool} (x : Bool) → a ≡ b → a ≡ x → _≡_ {A = ℕ} (cond x 1 0) (cond b 1 0)
 one-zero x e h = ap {B = ℕ} (λ t. cond t 1 0) (sym h ∙ e)
@@ -59,9 +57,9 @@ module _ {v : Rated} {r : Reply} (e : rating v ≡ r) where
       rw (← rated-as (rated.Refused n) h) (k, refl)
 
 -- a restore's end: its number, and a record's place
-module _ {v : Restored} {r : Reply} (e : restored v ≡ r) where
-  ended-as : (w : Restored) → v ≡ w → restored w ≡ r
-  ended-as w h = ap restored (sym h) ∙ e
+module _ {v : Restored} {r : Reply} (e : restoreReply v ≡ r) where
+  ended-as : (w : Restored) → v ≡ w → restoreReply w ≡ r
+  ended-as w h = ap restoreReply (sym h) ∙ e
 
   pub restore-done : v ≡ end.Done → (l : List ℕ) → (0 ≡ r .number * 4294967296) × (l ≡ widened r l)
   restore-done h l = rw (← ended-as end.Done h) (refl, refl)

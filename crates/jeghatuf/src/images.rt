@@ -1,8 +1,8 @@
 // Open, the exact test, Validate, Apply and the lookups for programs in other languages. `unpacked` (`specs/Unpacked.antt`) is what their
 // packed answers give back.
-use lookup::Rated;
-use lookup::Value;
 use model::NodeId;
+use model::answers::Rated;
+use model::answers::Value;
 use packing::alone;
 use packing::pack;
 use packing::put_first;

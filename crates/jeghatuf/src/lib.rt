@@ -3,11 +3,11 @@
 mod images;
 mod restarts;
 
+use model::answers::Answer;
+use model::refusals::UNKNOWN_KIND;
 use packing::kinds::Numbered;
 use packing::kinds::kind_of;
 use packing::pack;
-use records::Answer;
-use shape_faults::UNKNOWN_KIND;
 ghost use mathlib.Core.Path.{_≡_};
 ghost use Rattle.model.specs.Record.{readOf};
 ghost use Rattle.packing.specs.Packed.{packed};

@@ -1,9 +1,9 @@
 // Snapshot, Restore and the records of a downgrade for programs in other languages. `unpacked` (`specs/Unpacked.antt`) is what their packed
 // answers give back.
+use model::answers::Restored;
 use packing::alone;
 use packing::pack;
 use packing::put_first;
-use restore::Restored;
 ghost use mathlib.Core.Path.{_≡_};
 ghost use Prim.Native.Nat.{_*_};
 ghost use Rattle.model.specs.Downgrade.{downgradeOf};

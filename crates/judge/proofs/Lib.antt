@@ -1,7 +1,5 @@
-pub mod Fields
+pub mod Scopes
 pub mod Logged
-pub mod Queries
-pub mod Held
 pub mod Counted
 pub mod Replaced
 pub mod Epochs

@@ -1,106 +1,26 @@
--- A record of the log by its bytes: its kind, its fields, what the values of those that must be there are, and its judgement by its kind.
-use mathlib.Core.Path.{_≡_, refl, sym, ap, _∙_, subst}
-use mathlib.Core.Bool.{true}
-use mathlib.Core.List.{List, [], append-nil}
-use mathlib.Core.Option.{none, some}
-use Prim.Native.Nat.{ℕ, zero, suc, _≤_, _<_}
-use native.Mathlib.Omega.{arith}
-use lib.ListN.{length, drop}
+-- The judgement of a record of the log, by its kind.
+use mathlib.Core.Path.{_≡_, refl, sym, ap, _∙_}
+use mathlib.Core.List.{List}
+use Prim.Native.Nat.{ℕ, zero, suc}
 use Rattle.model.specs.Choice.{orThen}
 use Rattle.model.specs.Number.{Bytes}
-use Rattle.model.specs.Run.{done, runOf, bytesOf, value}
 use Rattle.model.specs.Kind.{kindNumber}
-use Rattle.model.specs.Shape.{text, Row, rowsOf, rowAt, isRequired, logged, shapeOf, fault}
-use Rattle.model.specs.Record.{Rec, rec, recordBytes, read, onGot}
 use Rattle.model.specs.Contents.{Entry}
 use Rattle.model.specs.Validate.{alone, against, judge}
 use Rattle.model.specs.declared.Kind.{Kind}
-use Rattle.model.specs.declared.Kind.the-variants.{Topic, PartitionUpdate}
-use Rattle.laws_records.specs.Runs.{run-bytes}
-use Rattle.laws_records.specs.Kinds.{number-injective, number-range}
-use Rattle.laws_records.specs.Records.{length-record, read-record}
-use Rattle.laws_records.specs.Forms.{ValueFits, leaf-fits}
-use Rattle.laws_records.specs.Passes.{value-passes}
-use Rattle.laws_records.specs.Faults.{fault-value, fault-whole, fault-short}
 use Rattle.keys.specs.Keys.{kindIn, runIn}
-use Rattle.judge.specs.Judge.{IsLogged, loggedIn, TopicFields}
+use Rattle.find.specs.Logged.{IsLogged, loggedIn}
+use Rattle.find.proofs.Logged.{run-in, kind-is}
 
--- 1. The bytes of a record
+module _ (s : Bytes) (i : IsLogged s) (k : Kind) (is : kindIn s ≡ kindNumber k) where
+  pub judged : (l : List Entry) → orThen (alone k (runIn s)) (against k (runIn s) l) ≡ judge (loggedIn s) l
+  unfolding judge
+  judged l = rw (run-in s i, ← kind-is s i k is)
 
-first-byte : (r : Rec) → kindIn (recordBytes r) ≡ kindNumber (r .kind)
-unfolding recordBytes
-first-byte r = refl
-
-body : (r : Rec) → drop 3 (recordBytes r) ≡ bytesOf (r .run)
-unfolding recordBytes
-body r = refl
-
-record-run : (r : Rec) → fault logged (r .kind) (r .run) ≡ 0 → runIn (recordBytes r) ≡ r .run
-record-run r ok = ap runOf (body r) ∙ run-bytes (r .run) (fault-whole logged (r .kind) (r .run) ok) (fault-short logged (r .kind) (r .run) ok)
-
-module _ (s : Bytes) (i : IsLogged s) where
-  pub headed : 3 ≤ length s
-  headed = omega (arith, ap length (i .bytes), length-record (i .value))
-
-  pub logged-in : loggedIn s ≡ i .value
-  logged-in =
-      ap (λ g. onGot g (λ n. rec Topic done) (λ r n. r))
-      (ap (read logged) (i .bytes ∙ sym (append-nil (recordBytes (i .value)))) ∙ read-record logged (i .value) [] (i .passes))
-
-  pub kind-in : kindIn s ≡ kindNumber (loggedIn s .kind)
-  kind-in = ap kindIn (i .bytes) ∙ first-byte (i .value) ∙ ap (λ r. kindNumber (r .kind)) (sym logged-in)
-
-  pub run-in : runIn s ≡ loggedIn s .run
-  run-in = ap runIn (i .bytes) ∙ record-run (i .value) (i .passes) ∙ ap (λ r. r .run) (sym logged-in)
-
-  pub passes : fault logged (loggedIn s .kind) (runIn s) ≡ 0
-  passes = rw (run-in, logged-in) (i .passes)
-
-  -- 2. A number that no kind has
-
-  kind-range : (0 < kindIn s) × (kindIn s ≤ 25)
-  kind-range = let r = number-range (loggedIn s .kind) in (omega (arith, kind-in), omega (arith, kind-in))
-
-  pub kind-zero : {A : Type 0} → kindIn s ≡ 0 → A
-  kind-zero h = absurd (omega (arith, kind-range))
-
-  pub kind-past : {A : Type 0} → 26 ≤ kindIn s → A
-  kind-past h = absurd (omega (arith, kind-range))
-
-  -- 3. By the kind
-
-  module _ (k : Kind) (is : kindIn s ≡ kindNumber k) where
-    pub kind-is : loggedIn s .kind ≡ k
-    kind-is = number-injective (loggedIn s .kind) k (sym kind-in ∙ is)
-
-    pub value-of : (tag : ℕ) {row : Row} → rowAt (rowsOf (shapeOf logged k)) tag ≡ some row → isRequired (row .presence) ≡ true
-        → ValueFits none (row .form) (value tag (runIn s))
-    value-of tag found must = fault-value logged k (runIn s) (subst (λ x. fault logged x (runIn s) ≡ 0) kind-is passes) tag found must
-
-    pub judged : (l : List Entry) → orThen (alone k (runIn s)) (against k (runIn s) l) ≡ judge (loggedIn s) l
-    unfolding judge
-    judged l = rw (run-in, ← kind-is)
-
-    -- where the entries say nothing
-    pub judged-alone : (l : List Entry) → against k (runIn s) l ≡ 0 → alone k (runIn s) ≡ judge (loggedIn s) l
-    judged-alone l silent = go (alone k (runIn s)) ∙ ap (orThen (alone k (runIn s))) (sym silent) ∙ judged l
-      where
-        go : (n : ℕ) → n ≡ orThen n 0
-        go zero = refl
-        go (suc n) = refl
-
-  -- 4. What a topic's record and a partition's update hold
-
-  pub topic-logged : kindIn s ≡ 1 → TopicFields s
-  unfolding rowsOf shapeOf kindNumber
-  topic-logged is = record {
-    headed = headed;
-    name-fits = value-of Topic is 1 refl refl .1;
-    count-width = value-of Topic is 3 refl refl;
-    factor-width = value-of Topic is 4 refl refl;
-  }
-
-  pub nested-logged : kindIn s ≡ 23 → length (value 1 (runOf (value 1 (runIn s)))) ≤ 255
-  unfolding rowsOf shapeOf kindNumber
-  nested-logged is =
-      leaf-fits none (text 255) (value 1 (runOf (value 1 (runIn s)))) (value-passes (value-of PartitionUpdate is 1 refl refl) 1 refl refl) .1
+  -- where the entries say nothing
+  pub judged-alone : (l : List Entry) → against k (runIn s) l ≡ 0 → alone k (runIn s) ≡ judge (loggedIn s) l
+  judged-alone l silent = go (alone k (runIn s)) ∙ ap (orThen (alone k (runIn s))) (sym silent) ∙ judged l
+    where
+      go : (n : ℕ) → n ≡ orThen n 0
+      go zero = refl
+      go (suc n) = refl

@@ -25,9 +25,11 @@ use Rattle.keys.specs.Keys.{runIn}
 use Rattle.entries.specs.Entries.{Entries, Placed, recordIn}
 use Rattle.image_entries.proofs.Records.{headed, run-in, kind-is, value-is}
 use Rattle.find.specs.Found.{queryKey}
-use Rattle.judge.specs.Judge.{entriesIn, TopicFields, mayReplace}
-use Rattle.judge.proofs.Queries.{topic-key}
-use Rattle.judge.proofs.Held.{Held, held, none-held}
+use Rattle.entries.specs.Held.{entriesIn}
+use Rattle.find.specs.Logged.{TopicFields}
+use Rattle.judge.specs.Judge.{mayReplace}
+use Rattle.find.proofs.Queries.{topic-key}
+use Rattle.find.proofs.Held.{Held, held, none-held}
 
 -- 1. The three tests
 

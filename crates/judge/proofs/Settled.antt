@@ -20,9 +20,9 @@ use Rattle.keys.specs.Keys.{runIn}
 use Rattle.entries.specs.Entries.{Entries, Placed}
 use Rattle.image_entries.proofs.Records.{headed, run-in, value-is}
 use Rattle.find.specs.Found.{queryKey}
-use Rattle.judge.specs.Judge.{entriesIn}
-use Rattle.judge.proofs.Queries.{proposal-key}
-use Rattle.judge.proofs.Held.{Held, held, held-run, none-run}
+use Rattle.entries.specs.Held.{entriesIn}
+use Rattle.find.proofs.Queries.{proposal-key}
+use Rattle.find.proofs.Held.{Held, held, held-run, none-run}
 
 -- 1. The three tests
 

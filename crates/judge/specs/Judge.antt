@@ -22,27 +22,6 @@ use Rattle.entries.specs.Entries.{recordsIn}
 use Rattle.judge.specs.declared.proposals.Value.{Value}
 use Rattle.judge.specs.declared.proposals.Value.the-variants.{At, Last}
 
--- a record's bytes, as it is read in the log
-pub record IsLogged (s : Bytes) : Type 0 where
-  pub value : Rec
-  pub bytes : s ≡ recordBytes value
-  pub passes : fault logged (value .kind) (value .run) ≡ 0
-
--- the record that bytes begin with
-abbrev pub loggedIn : Bytes → Rec
-loggedIn s = onGot (read logged s) (λ n. rec Topic done) (λ r n. r)
-
--- the entries that bytes spell
-abbrev pub entriesIn : Bytes → List Entry
-entriesIn s = map entryOf (recordsIn s)
-
--- a topic's fields, as they are read of a record or of an entry
-pub record TopicFields (s : Bytes) : Type 0 where
-  pub headed : 3 ≤ length s
-  pub name-fits : length (value 1 (runIn s)) ≤ 255
-  pub count-width : length (value 3 (runIn s)) ≡ 4
-  pub factor-width : length (value 4 (runIn s)) ≡ 2
-
 -- what a topic's record must be against the stored one and its partitions' number
 unfoldable pub mayReplace : Run → Run → ℕ → Bool
 mayReplace new old parts =

@@ -3,28 +3,23 @@ mod brokers;
 mod lookups;
 mod partitions;
 mod proposals;
-mod refusals;
 mod topics;
 mod values;
 
-pub use brokers::at_epoch;
 use brokers::producer_fault;
-pub use brokers::stored_next;
 use brokers::unknown_controller;
+use find::at_epoch;
 use keys::node_at;
 use keys::value_at;
-pub use lookups::find_named;
+use model::refusals::EMPTY_SCOPE;
+use model::refusals::STALE_CHANGE;
+use model::refusals::STALE_UNREGISTRATION;
+use model::refusals::UNKNOWN_KIND;
 use proposals::proposal_fault;
-use refusals::EMPTY_SCOPE;
-use refusals::STALE_CHANGE;
-use refusals::STALE_UNREGISTRATION;
-use shape_faults::UNKNOWN_KIND;
 use topics::topic_exists;
 use topics::unknown_nested;
 use topics::unknown_partition;
 use topics::unknown_topic;
-pub use values::place_in;
-pub use values::same_value;
 use values::unless;
 ghost use mathlib.Core.Path.{_≡_};
 ghost use mathlib.Core.List.{map};
@@ -34,7 +29,8 @@ ghost use Rattle.model.specs.Image.{entryOf};
 ghost use Rattle.model.specs.Validate.{judge as judgeOf};
 ghost use Rattle.keys.specs.Keys.{runIn};
 ghost use Rattle.entries.specs.Entries.{recordsIn, Entries};
-ghost use Rattle.judge.specs.Judge.{IsLogged, loggedIn, emptyScope};
+ghost use Rattle.find.specs.Logged.{IsLogged, loggedIn};
+ghost use Rattle.judge.specs.Judge.{emptyScope};
 
 // Whether a freeze's scope is empty, a literal or a prefix.
 fn empty_scope(rec: &[u8]) -> bool

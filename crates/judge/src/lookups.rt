@@ -13,7 +13,7 @@ ghost use Rattle.model.specs.Contents.{key};
 ghost use Rattle.keys.specs.Keys.{runIn};
 ghost use Rattle.entries.specs.Entries.{Entries, Placed};
 ghost use Rattle.find.specs.Found.{Query, queryKey};
-ghost use Rattle.judge.specs.Judge.{entriesIn};
+ghost use Rattle.entries.specs.Held.{entriesIn};
 
 // Whether there is an entry of a kind whose first two fields, or as much of them as its key has, are these.
 pub fn is_stored(s: &[u8], kind: u8, first: &[u8], second: &[u8]) -> bool

@@ -1,7 +1,7 @@
 // A topic's stored partitions.
-use crate::values::same_value;
 use entries::Cursor;
 use entries::Step;
+use keys::same_value;
 ghost use mathlib.Core.Path.{_≡_};
 ghost use Prim.Native.Nat.{_*_, _≤_};
 ghost use lib.ListN.{length};
@@ -9,7 +9,7 @@ ghost use Rattle.model.specs.Run.{value};
 ghost use Rattle.model.specs.Contents.{recordKey, ofTopic, partitions};
 ghost use Rattle.keys.specs.Keys.{runIn};
 ghost use Rattle.entries.specs.Entries.{Entries, IsRecord, recordIn};
-ghost use Rattle.judge.specs.Judge.{entriesIn};
+ghost use Rattle.entries.specs.Held.{entriesIn};
 
 // Whether an entry is a partition of the topic that a record's first field names. Partitions are of kind 2.
 fn is_partition_of(e: &[u8], rec: &[u8]) -> bool

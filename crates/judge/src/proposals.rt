@@ -1,12 +1,13 @@
 // Break-glass proposals, against the stored ones.
 use crate::lookups::find_named;
-use crate::refusals::CONSUMED;
-use crate::refusals::NO_EXTENSION;
-use crate::refusals::WITHDRAWN;
 use crate::values::unless;
 use fields::Cursor;
 use fields::Step;
 use keys::number_at;
+use model::kinds::BREAK_GLASS_PROPOSAL;
+use model::refusals::CONSUMED;
+use model::refusals::NO_EXTENSION;
+use model::refusals::WITHDRAWN;
 ghost use mathlib.Core.Path.{_≡_};
 ghost use mathlib.Core.Option.{some};
 ghost use Prim.Native.Nat.{_≤_};
@@ -19,10 +20,8 @@ ghost use Rattle.model.specs.declared.Kind.the-variants.{BreakGlassProposal};
 ghost use Rattle.fields.specs.Fields.{Inside};
 ghost use Rattle.keys.specs.Keys.{runIn};
 ghost use Rattle.entries.specs.Entries.{Entries};
-ghost use Rattle.judge.specs.Judge.{entriesIn, NextOf};
-
-// The kind of a proposal, and the tag of its approvals.
-const PROPOSAL: u8 = 19;
+ghost use Rattle.entries.specs.Held.{entriesIn};
+ghost use Rattle.judge.specs.Judge.{NextOf};
 
 const APPROVAL: usize = 8;
 
@@ -113,7 +112,7 @@ pub fn proposal_fault(s: &[u8], rec: &[u8]) -> u8
     requires { ⌜ Entries (now s) × (3 ≤ length (now rec)) × (length (value 1 (runIn (now rec))) ≤ 255) ⌝ }
     ensures { λ r. ⌜ r ≡ proposalFault (runIn (now (rec .entry))) (runAt (nameKey BreakGlassProposal (value 1 (runIn (now (rec .entry))))) (entriesIn (now (s .entry)))) ⌝ }
 {
-    let p = find_named(s, PROPOSAL, rec);
+    let p = find_named(s, BREAK_GLASS_PROPOSAL, rec);
     let at = p.at;
     let end = p.end;
     if end <= at {

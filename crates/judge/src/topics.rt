@@ -2,15 +2,17 @@
 use crate::lookups::find_named;
 use crate::lookups::is_stored;
 use crate::partitions::partitions_of;
-use crate::refusals::TOPIC_EXISTS;
-use crate::refusals::UNKNOWN_TOPIC;
-use crate::values::place_in;
-use crate::values::same_value;
 use crate::values::unless;
 use fields::Cursor;
 use fields::Found;
 use keys::number_at;
+use keys::place_in;
+use keys::same_value;
 use keys::value_at;
+use model::kinds::PARTITION;
+use model::kinds::TOPIC;
+use model::refusals::TOPIC_EXISTS;
+use model::refusals::UNKNOWN_TOPIC;
 use reader::field;
 ghost use mathlib.Core.Path.{_≡_};
 ghost use Prim.Native.Nat.{_≤_, _<_};
@@ -24,12 +26,9 @@ ghost use Rattle.model.specs.Validate.{topicExists, unknownTopic};
 ghost use Rattle.model.specs.declared.Kind.the-variants.{Partition};
 ghost use Rattle.keys.specs.Keys.{runIn};
 ghost use Rattle.entries.specs.Entries.{Entries};
-ghost use Rattle.judge.specs.Judge.{entriesIn, TopicFields, mayReplace};
-
-// The kinds of the entries that are looked for.
-const TOPIC: u8 = 1;
-
-const PARTITION: u8 = 2;
+ghost use Rattle.entries.specs.Held.{entriesIn};
+ghost use Rattle.find.specs.Logged.{TopicFields};
+ghost use Rattle.judge.specs.Judge.{mayReplace};
 
 // Zero's place among signed numbers of four bytes.
 const ZERO: u64 = 0x8000_0000;

@@ -1,11 +1,14 @@
 // Keys: how two encoded records stand to each other in an image, straight from their bytes.
 mod entities;
+mod values;
 
 use entities::compare_entities;
 use fields::Found;
 use model::NodeId;
 use model::Order;
 use reader::find;
+pub use values::place_in;
+pub use values::same_value;
 ghost use mathlib.Core.Path.{_≡_};
 ghost use Prim.Native.Nat.{_≤_};
 ghost use lib.ListN.{length};

@@ -4,12 +4,12 @@ use mathlib.Core.Bool.{Bool, true, false, cond, _&&_}
 use Rattle.model.specs.Number.{Bytes}
 use Rattle.model.specs.Order.{sameBytes}
 use Rattle.model.specs.Contents.{Entry, topic, part, plain, namesId}
-use Rattle.model.specs.Move.{unname}
+use Rattle.model.specs.Move.{clearNamed}
 use Rattle.laws.specs.Order.{sameBytes-true}
 
 -- a topic that loses a shared id is no longer named for it
-pub unnamed : (i : Bytes) (e : Entry) → namesId i (unname i e) ≡ false
-unfolding unname namesId
+pub unnamed : (i : Bytes) (e : Entry) → namesId i (clearNamed i e) ≡ false
+unfolding clearNamed namesId
 unnamed i (topic name id count factor named) = go (sameBytes id i) named
   where
     go : (same named : Bool) → cond same false named && same ≡ false
@@ -20,8 +20,8 @@ unnamed i (part r) = refl
 unnamed i (plain r) = refl
 
 -- another id's topic stays
-pub unnamed-other : (i j : Bytes) → sameBytes j i ≡ false → (e : Entry) → namesId j (unname i e) ≡ namesId j e
-unfolding unname namesId
+pub unnamed-other : (i j : Bytes) → sameBytes j i ≡ false → (e : Entry) → namesId j (clearNamed i e) ≡ namesId j e
+unfolding clearNamed namesId
 unnamed-other i j h (topic name id count factor named) = go (sameBytes id i) (sameBytes id j) refl refl
   where
     clash : sameBytes id i ≡ true → sameBytes id j ≡ true → sameBytes j i ≡ true

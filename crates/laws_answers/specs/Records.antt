@@ -13,9 +13,9 @@ use Rattle.model.specs.Record.{Rec, recordBytes}
 use Rattle.model.specs.Order.{Key}
 use Rattle.model.specs.Key.{freezeKey}
 use Rattle.model.specs.Map.{get}
-use Rattle.model.specs.Contents.{Entry, shown, kept, key, namesId, Contents}
+use Rattle.model.specs.Contents.{Entry, returned, kept, key, namesId, Contents}
 use Rattle.model.specs.Image.{mostCapacity}
-use Rattle.model.specs.Lookup.{found, namedBy, literal, prefixed, beginsWith, internal, longestBy, freezeBy, shownAt, freeze, asList, isShort, shortCount}
+use Rattle.model.specs.Lookup.{found, namedBy, literal, prefixed, beginsWith, internal, longestBy, freezeBy, returnedAt, freeze, asList, isShort, shortCount}
 use Rattle.laws.specs.Lists.{All, all-imp, all-both, in-all}
 use Rattle.laws.specs.Map.{get-in}
 use Rattle.laws_records.specs.Lengths.{longestBody}
@@ -23,7 +23,7 @@ use Rattle.laws_records.specs.Faults.{fault-length}
 use Rattle.laws_records.specs.Records.{length-record}
 use Rattle.laws_image.specs.Fits.{Proper, Fits}
 use Rattle.laws_image.specs.Orderly.{Storable, orderly}
-use Rattle.laws_image.specs.Snapshot.{shown-passes}
+use Rattle.laws_image.specs.Snapshot.{returned-passes}
 use Rattle.laws_image.specs.Tests.{capacity-most}
 use Rattle.laws_image.specs.Weight.{storedSize, length-entries, used-fits}
 
@@ -41,7 +41,7 @@ record-short source r ok = omega (arith, length-record r, fault-length source (r
 -- 2. The entries
 
 abbrev pub ShownShort : Entry → Type 0
-ShownShort e = Short (shown e)
+ShownShort e = Short (returned e)
 
 -- each takes a byte at least
 entries-take : (l : List Entry) → length l ≤ total storedSize l
@@ -52,7 +52,7 @@ entries-take (e ∷ l) = omega (arith, entries-take l, length-record (kept e))
 module _ (capacity : ℕ) (c : Contents) (f : Fits capacity c) where
   pub entries-short : All ShownShort (c .real)
   entries-short =
-      all-imp (λ e. Storable e × Proper e) ShownShort (λ e p. record-short _ (shown e) (shown-passes e (p .0) (p .1) .0)) (c .real)
+      all-imp (λ e. Storable e × Proper e) ShownShort (λ e p. record-short _ (returned e) (returned-passes e (p .0) (p .1) .0)) (c .real)
       (all-both Storable Proper (c .real) (orderly c (f .orderly) .storables) (f .entries))
 
   pub entries-few : length (c .real) ≤ mostCapacity
@@ -74,7 +74,7 @@ list-short (some r) h = rw (append-nil (recordBytes r)) h
 
 pub found-short : (o : Option Entry) → FoundShort o → length (joined recordBytes (found o)) ≤ longestRecord
 found-short none h = omega arith
-found-short (some e) h = rw (append-nil (recordBytes (shown e))) h
+found-short (some e) h = rw (append-nil (recordBytes (returned e))) h
 
 either-short : (a b : Option Rec) → MaybeShort a → MaybeShort b → MaybeShort (orElse a b)
 either-short none b p q = q
@@ -96,10 +96,10 @@ module _ (l : List Entry) (short : All ShownShort l) where
       go none e = tt
       go (some x) e = in-all ShownShort l short x (get-in key k l x e .0)
 
-  shown-short : (k : Key) → MaybeShort (shownAt k l)
-  shown-short k = go (get key k l) (get-short k)
+  returned-short : (k : Key) → MaybeShort (returnedAt k l)
+  returned-short k = go (get key k l) (get-short k)
     where
-      go : (o : Option Entry) → FoundShort o → MaybeShort (given o none (λ e. some (shown e)))
+      go : (o : Option Entry) → FoundShort o → MaybeShort (given o none (λ e. some (returned e)))
       go none h = tt
       go (some e) h = h
 
@@ -108,10 +108,10 @@ module _ (l : List Entry) (short : All ShownShort l) where
   freeze-short name = go (beginsWith internal name)
     where
       find : Bytes → Bytes → Option Rec
-      find pattern scope = shownAt (freezeKey pattern scope) l
+      find pattern scope = returnedAt (freezeKey pattern scope) l
 
       found-at : (pattern scope : Bytes) → MaybeShort (find pattern scope)
-      found-at pattern scope = shown-short (freezeKey pattern scope)
+      found-at pattern scope = returned-short (freezeKey pattern scope)
 
       go : (b : Bool) → MaybeShort (cond b none (orElse (find literal name) (longestBy (find prefixed) [] name)))
       go true = tt

@@ -19,9 +19,9 @@ use Rattle.laws_apply.specs.MovedFits.{contentsAfter, applied-fits}
 -- 1. By what is read
 
 -- the number that Apply says
-abbrev pub numberOf : Applied → ℕ
-numberOf (stays n) = n
-numberOf (becomes c) = 0
+abbrev pub refusalNumber : Applied → ℕ
+refusalNumber (stays n) = n
+refusalNumber (becomes c) = 0
 
 pub apply-no-image : (image input : Bytes) → isImage image ≡ false → applyOf image input ≡ unchanged 1 image
 unfolding applyOf
@@ -41,7 +41,7 @@ module _ (image input : Bytes) (is : isImage image ≡ true) where
 
 -- what an operation's end says, by what a record does to the contents
 pub record Answers (image : Bytes) (a : Applied) (end : Ended) : Type 0 where
-  pub reply : end .reply ≡ refused (numberOf a)
+  pub reply : end .reply ≡ refused (refusalNumber a)
   pub buffer : end .buffer ≡ imageOf (length image) (contentsAfter (contentsOf image) a)
   pub contents : contentsOf (end .buffer) ≡ contentsAfter (contentsOf image) a
 

@@ -16,7 +16,7 @@ use Rattle.model.specs.Record.{rec}
 use Rattle.model.specs.Key.{keyOf, subject, topicKey}
 use Rattle.model.specs.Map.{get}
 use Rattle.model.specs.Contents.{Entry, topic, part, plain, topicRun, flagBytes, kept, key}
-use Rattle.model.specs.Move.{unname, unnameOld, tell, isNew, partitionTopic, replicas, idWidth, nodeCount, setDirectories}
+use Rattle.model.specs.Move.{clearNamed, clearOldNamed, countPartition, isNew, partitionTopic, replicas, idWidth, nodeCount, setDirectories}
 use Rattle.model.specs.declared.Kind.the-variants.{Topic, Partition}
 use Rattle.laws.specs.Numbers.{length-bytes, bytes-are-bytes}
 use Rattle.laws_records.specs.Fields.{value-set-other}
@@ -95,32 +95,32 @@ topic-stored name id count factor named t h = record { readable = topic-readable
 
 -- 2. No topic is named for an id
 
-pub key-unname : (i : Bytes) (e : Entry) → key (unname i e) ≡ key e
-unfolding unname key
-key-unname i (topic name id count factor named) = refl
-key-unname i (part r) = refl
-key-unname i (plain r) = refl
+pub key-clear-named : (i : Bytes) (e : Entry) → key (clearNamed i e) ≡ key e
+unfolding clearNamed key
+key-clear-named i (topic name id count factor named) = refl
+key-clear-named i (part r) = refl
+key-clear-named i (plain r) = refl
 
-pub key-unname-old : (o : Option Entry) (e : Entry) → key (unnameOld o e) ≡ key e
-unfolding unnameOld
-key-unname-old none e = refl
-key-unname-old (some (topic name id count factor named)) e = key-unname id e
-key-unname-old (some (part r)) e = refl
-key-unname-old (some (plain r)) e = refl
+pub key-clear-old-named : (o : Option Entry) (e : Entry) → key (clearOldNamed o e) ≡ key e
+unfolding clearOldNamed
+key-clear-old-named none e = refl
+key-clear-old-named (some (topic name id count factor named)) e = key-clear-named id e
+key-clear-old-named (some (part r)) e = refl
+key-clear-old-named (some (plain r)) e = refl
 
-pub unname-stored : (i : Bytes) (e : Entry) → Stored e → Stored (unname i e)
-unfolding unname
-unname-stored i (topic name id count factor named) s =
+pub clear-named-stored : (i : Bytes) (e : Entry) → Stored e → Stored (clearNamed i e)
+unfolding clearNamed
+clear-named-stored i (topic name id count factor named) s =
     topic-stored name id count factor (cond (sameBytes id i) false named) (name-and-id name id count factor named (s .readable)) (s .factor)
-unname-stored i (part r) s = s
-unname-stored i (plain r) s = s
+clear-named-stored i (part r) s = s
+clear-named-stored i (plain r) s = s
 
-pub unname-old-stored : (o : Option Entry) (e : Entry) → Stored e → Stored (unnameOld o e)
-unfolding unnameOld
-unname-old-stored none e s = s
-unname-old-stored (some (topic name id count factor named)) e s = unname-stored id e s
-unname-old-stored (some (part r)) e s = s
-unname-old-stored (some (plain r)) e s = s
+pub clear-old-named-stored : (o : Option Entry) (e : Entry) → Stored e → Stored (clearOldNamed o e)
+unfolding clearOldNamed
+clear-old-named-stored none e s = s
+clear-old-named-stored (some (topic name id count factor named)) e s = clear-named-stored id e s
+clear-old-named-stored (some (part r)) e s = s
+clear-old-named-stored (some (plain r)) e s = s
 
 -- 3. A partition tells its topic
 
@@ -129,17 +129,17 @@ abbrev pub added : Run → List Entry → ℕ
 added r l = isNew (get key (keyOf Partition r) l)
 
 abbrev pub told : Run → List Entry → Entry → Entry
-told r l = tell (partitionTopic r) (added r l) (nodeCount (replicas r))
+told r l = countPartition (partitionTopic r) (added r l) (nodeCount (replicas r))
 
-key-tell : (name : Bytes) (new factor : ℕ) (e : Entry) → key (tell name new factor e) ≡ key e
-unfolding tell key
-key-tell name new factor (topic n id count old named) = go (sameBytes n name)
+key-count-partition : (name : Bytes) (new factor : ℕ) (e : Entry) → key (countPartition name new factor e) ≡ key e
+unfolding countPartition key
+key-count-partition name new factor (topic n id count old named) = go (sameBytes n name)
   where
     go : (b : Bool) → key (cond b (topic n id (count + new) factor named) (topic n id count old named)) ≡ topicKey n
     go true = refl
     go false = refl
-key-tell name new factor (part r) = refl
-key-tell name new factor (plain r) = refl
+key-count-partition name new factor (part r) = refl
+key-count-partition name new factor (plain r) = refl
 
 -- a partition has at most 64 replicas
 pub replicas-few : (r : Run) → fault stored Partition r ≡ 0 → nodeCount (replicas r) ≤ listLimit
@@ -147,20 +147,20 @@ unfolding rowsOf shapeOf kindNumber
 replicas-few r ok = fault-value stored Partition r ok 4 refl refl .1
 
 pub key-told : (r : Run) (l : List Entry) (e : Entry) → key (told r l e) ≡ key e
-key-told r l = key-tell (partitionTopic r) (added r l) (nodeCount (replicas r))
+key-told r l = key-count-partition (partitionTopic r) (added r l) (nodeCount (replicas r))
 
-tell-stored : (name : Bytes) (new factor : ℕ) → factor < span 2 → (e : Entry) → Stored e → Stored (tell name new factor e)
-unfolding tell
-tell-stored name new factor h (topic n id count old named) s = go (sameBytes n name)
+count-partition-stored : (name : Bytes) (new factor : ℕ) → factor < span 2 → (e : Entry) → Stored e → Stored (countPartition name new factor e)
+unfolding countPartition
+count-partition-stored name new factor h (topic n id count old named) s = go (sameBytes n name)
   where
     go : (b : Bool) → Stored (cond b (topic n id (count + new) factor named) (topic n id count old named))
     go true = topic-stored n id (count + new) factor named (name-and-id n id count old named (s .readable)) h
     go false = s
-tell-stored name new factor h (part r) s = s
-tell-stored name new factor h (plain r) s = s
+count-partition-stored name new factor h (part r) s = s
+count-partition-stored name new factor h (plain r) s = s
 
 pub told-stored : (r : Run) → Readable (rec Partition r) → (l : List Entry) (e : Entry) → Stored e → Stored (told r l e)
-told-stored r p l = tell-stored (partitionTopic r) (added r l) (nodeCount (replicas r)) (omega (arith, replicas-few r (p .passes)))
+told-stored r p l = count-partition-stored (partitionTopic r) (added r l) (nodeCount (replicas r)) (omega (arith, replicas-few r (p .passes)))
 
 -- 4. A partition's directories
 

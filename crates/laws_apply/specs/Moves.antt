@@ -13,7 +13,7 @@ use Rattle.model.specs.Key.{rank, keyRank, keyOf, topicKey}
 use Rattle.model.specs.Map.{get, remove, keep}
 use Rattle.model.specs.Contents.{Entry, topic, part, plain, key, recordKey, kept, Fixed, Contents}
 use Rattle.model.specs.Move.{Move, putM, dropM, joinM, leaveM, topicM, partM, directoriesM, deleteM, bumpM, epochM, kraftM}
-use Rattle.model.specs.Move.{unname, unnameOld, countOf, setDirectories, apartFrom}
+use Rattle.model.specs.Move.{clearNamed, clearOldNamed, countOf, setDirectories, apartFrom}
 use Rattle.model.specs.Move.{onReal, onEmpties, bumped, onFixed, move, moves}
 use Rattle.model.specs.declared.Kind.{Kind}
 use Rattle.model.specs.declared.Kind.the-variants.{Partition}
@@ -21,9 +21,9 @@ use Rattle.laws.specs.Lists.{All, all-map}
 use Rattle.laws.specs.Map.{Asc, put-asc, remove-asc, keep-asc, map-asc, all-put, all-remove, all-keep, remove-sub, keep-sub}
 use Rattle.laws_image.specs.Groups.{Grouped, config, quota}
 use Rattle.laws_image.specs.Ranks.{rank-injective, key-rank}
-use Rattle.laws_apply.specs.Entries.{Stored, topic-stored, key-unname, key-unname-old, unname-stored, unname-old-stored}
+use Rattle.laws_apply.specs.Entries.{Stored, topic-stored, key-clear-named, key-clear-old-named, clear-named-stored, clear-old-named-stored}
 use Rattle.laws_apply.specs.Entries.{told, key-told, told-stored, key-directories, part-stored, directories-stored}
-use Rattle.laws_apply.specs.Topics.{Topics, Elsewhere, storable-elsewhere, put-topics, remove-topics, directories-topics, unname-old-topics}
+use Rattle.laws_apply.specs.Topics.{Topics, Elsewhere, storable-elsewhere, put-topics, remove-topics, directories-topics, clear-old-named-topics}
 use Rattle.laws_apply.specs.Topics.{keep-topics, topic-topics, part-topics}
 use Rattle.laws_apply.specs.Groups.{Empties, Ungrouped, put-empties, sub-empties, map-empties, join-empties, leave-empties}
 use Rattle.laws_apply.specs.Lawful.{Puts, Lawful}
@@ -51,17 +51,17 @@ stored-move (joinM r) h l u = all-put key Stored (plain r) l u (plain-stored r (
 stored-move (leaveM r) h l u = all-remove key Stored (recordKey r) l u
 stored-move (topicM name id factor) h l u =
     let old = get key (topicKey name) l in
-    let m = map (unnameOld old) l in
+    let m = map (clearOldNamed old) l in
     let e = topic name id (countOf old) factor true in
-    all-put key Stored e (map (unname id) m)
-    (all-map Stored Stored (unname id) (unname-stored id) m (all-map Stored Stored (unnameOld old) (unname-old-stored old) l u))
+    all-put key Stored e (map (clearNamed id) m)
+    (all-map Stored Stored (clearNamed id) (clear-named-stored id) m (all-map Stored Stored (clearOldNamed old) (clear-old-named-stored old) l u))
     (topic-stored name id (countOf old) factor true (h .0) (h .1))
 stored-move (partM r) h l u =
     all-put key Stored (part r) (map (told r l) l) (all-map Stored Stored (told r l) (told-stored r h l) l u) (part-stored r h)
 stored-move (directoriesM k v) h l u = all-map Stored Stored (setDirectories k v) (directories-stored k v h) l u
 stored-move (deleteM name) h l u =
     let old = get key (topicKey name) l in
-    all-keep key Stored (apartFrom name) (map (unnameOld old) l) (all-map Stored Stored (unnameOld old) (unname-old-stored old) l u)
+    all-keep key Stored (apartFrom name) (map (clearOldNamed old) l) (all-map Stored Stored (clearOldNamed old) (clear-old-named-stored old) l u)
 stored-move bumpM h l u = u
 stored-move (epochM e) h l u = u
 stored-move (kraftM v) h l u = u
@@ -74,14 +74,14 @@ asc-move (joinM r) l a = put-asc key (plain r) l a
 asc-move (leaveM r) l a = remove-asc key (recordKey r) l a
 asc-move (topicM name id factor) l a =
     let old = get key (topicKey name) l in
-    let m = map (unnameOld old) l in
-    put-asc key (topic name id (countOf old) factor true) (map (unname id) m)
-    (map-asc key key (unname id) (key-unname id) m (map-asc key key (unnameOld old) (key-unname-old old) l a))
+    let m = map (clearOldNamed old) l in
+    put-asc key (topic name id (countOf old) factor true) (map (clearNamed id) m)
+    (map-asc key key (clearNamed id) (key-clear-named id) m (map-asc key key (clearOldNamed old) (key-clear-old-named old) l a))
 asc-move (partM r) l a = put-asc key (part r) (map (told r l) l) (map-asc key key (told r l) (key-told r l) l a)
 asc-move (directoriesM k v) l a = map-asc key key (setDirectories k v) (key-directories k v) l a
 asc-move (deleteM name) l a =
     let old = get key (topicKey name) l in
-    keep-asc key (apartFrom name) (map (unnameOld old) l) (map-asc key key (unnameOld old) (key-unname-old old) l a)
+    keep-asc key (apartFrom name) (map (clearOldNamed old) l) (map-asc key key (clearOldNamed old) (key-clear-old-named old) l a)
 asc-move bumpM l a = a
 asc-move (epochM e) l a = a
 asc-move (kraftM v) l a = a
@@ -106,7 +106,7 @@ topics-move (partM r) h l a t = part-topics r l t
 topics-move (directoriesM k v) h l a t = directories-topics k v l t
 topics-move (deleteM name) h l a t =
     let old = get key (topicKey name) l in
-    keep-topics name (map (unnameOld old) l) (map-asc key key (unnameOld old) (key-unname-old old) l a) (unname-old-topics old l t)
+    keep-topics name (map (clearOldNamed old) l) (map-asc key key (clearOldNamed old) (key-clear-old-named old) l a) (clear-old-named-topics old l t)
 topics-move bumpM h l a t = t
 topics-move (epochM e) h l a t = t
 topics-move (kraftM v) h l a t = t
@@ -142,17 +142,17 @@ empties-move (joinM r) h l g e = join-empties l g e r (h .1)
 empties-move (leaveM r) h l g e = leave-empties l g e r (h .grouped) (h .readable) (h .ordered)
 empties-move (topicM name id factor) h l g e =
     let old = get key (topicKey name) l in
-    let m = map (unnameOld old) l in
-    put-empties (map (unname id) m) g
-    (map-empties m g (map-empties l g e (unnameOld old) (key-unname-old old)) (unname id) (key-unname id))
+    let m = map (clearOldNamed old) l in
+    put-empties (map (clearNamed id) m) g
+    (map-empties m g (map-empties l g e (clearOldNamed old) (key-clear-old-named old)) (clearNamed id) (key-clear-named id))
     (topic name id (countOf old) factor true) (topic-ungrouped name)
 empties-move (partM r) h l g e =
     put-empties (map (told r l) l) g (map-empties l g e (told r l) (key-told r l)) (part r) (part-ungrouped r)
 empties-move (directoriesM k v) h l g e = map-empties l g e (setDirectories k v) (key-directories k v)
 empties-move (deleteM name) h l g e =
     let old = get key (topicKey name) l in
-    let m = map (unnameOld old) l in
-    sub-empties m g (map-empties l g e (unnameOld old) (key-unname-old old)) (keep key (apartFrom name) m) (keep-sub key (apartFrom name) m)
+    let m = map (clearOldNamed old) l in
+    sub-empties m g (map-empties l g e (clearOldNamed old) (key-clear-old-named old)) (keep key (apartFrom name) m) (keep-sub key (apartFrom name) m)
 empties-move bumpM h l g e = e
 empties-move (epochM x) h l g e = e
 empties-move (kraftM v) h l g e = e

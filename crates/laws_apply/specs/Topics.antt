@@ -15,7 +15,7 @@ use Rattle.model.specs.Record.{Rec}
 use Rattle.model.specs.Key.{rank, keyOf, subject, topicKey, keyRank, keyName, topicOf}
 use Rattle.model.specs.Map.{put, get, remove, keep, count}
 use Rattle.model.specs.Contents.{Entry, topic, part, plain, key, recordKey, ofTopic, partitions, storable, namesId}
-use Rattle.model.specs.Move.{unname, unnameOld, countOf, tell, partitionTopic, replicas, nodeCount, setDirectories, apartFrom}
+use Rattle.model.specs.Move.{clearNamed, clearOldNamed, countOf, countPartition, partitionTopic, replicas, nodeCount, setDirectories, apartFrom}
 use Rattle.model.specs.declared.Kind.the-variants.{Topic, Partition}
 use Rattle.laws.specs.Choice.{impossible, true-false, and-left, and-right, over, missing, missing-over}
 use Rattle.laws.specs.Order.{sameBytes-true, sameBytes-false, sameBytes-sym}
@@ -26,7 +26,7 @@ use Rattle.laws_image.specs.Ranks.{rank-injective, key-rank}
 use Rattle.laws_image.specs.Entries.{not-topic, not-partition}
 use Rattle.laws_image.specs.Orderly.{names}
 use Rattle.laws_restore.specs.Settled.{other-rank}
-use Rattle.laws_apply.specs.Entries.{key-unname, key-unname-old, added, told, key-told, key-directories}
+use Rattle.laws_apply.specs.Entries.{key-clear-named, key-clear-old-named, added, told, key-told, key-directories}
 
 pub record Topics (l : List Entry) : Type 0 where
   pub counts : (name : Bytes) → countOf (get key (topicKey name) l) ≤ partitions name l
@@ -115,16 +115,16 @@ map-topics f less l t = record {
   named = λ id a b p q. t .named id a b (names-map f less l id a p) (names-map f less l id b q);
 }
 
-unname-lessens : (i : Bytes) → Lessens (unname i)
-unfolding unname countOf namesId
-unname-lessens i = record { keys = key-unname i; count = count; name = name }
+clear-named-lessens : (i : Bytes) → Lessens (clearNamed i)
+unfolding clearNamed countOf namesId
+clear-named-lessens i = record { keys = key-clear-named i; count = count; name = name }
   where
-    count : (e : Entry) → countOf (some (unname i e)) ≡ countOf (some e)
+    count : (e : Entry) → countOf (some (clearNamed i e)) ≡ countOf (some e)
     count (topic n id c factor named) = refl
     count (part r) = refl
     count (plain r) = refl
 
-    name : (j : Bytes) (e : Entry) → namesId j (unname i e) ≡ true → namesId j e ≡ true
+    name : (j : Bytes) (e : Entry) → namesId j (clearNamed i e) ≡ true → namesId j e ≡ true
     name j (topic n id c factor named) q = go (sameBytes id i) q
       where
         go : (b : Bool) → cond b false named && sameBytes id j ≡ true → named && sameBytes id j ≡ true
@@ -133,12 +133,12 @@ unname-lessens i = record { keys = key-unname i; count = count; name = name }
     name j (part r) q = q
     name j (plain r) q = q
 
-unname-old-lessens : (o : Option Entry) → Lessens (unnameOld o)
-unfolding unnameOld
-unname-old-lessens none = record { keys = λ e. refl; count = λ e. refl; name = λ id e q. q }
-unname-old-lessens (some (topic n id c factor named)) = unname-lessens id
-unname-old-lessens (some (part r)) = record { keys = λ e. refl; count = λ e. refl; name = λ id e q. q }
-unname-old-lessens (some (plain r)) = record { keys = λ e. refl; count = λ e. refl; name = λ id e q. q }
+clear-old-named-lessens : (o : Option Entry) → Lessens (clearOldNamed o)
+unfolding clearOldNamed
+clear-old-named-lessens none = record { keys = λ e. refl; count = λ e. refl; name = λ id e q. q }
+clear-old-named-lessens (some (topic n id c factor named)) = clear-named-lessens id
+clear-old-named-lessens (some (part r)) = record { keys = λ e. refl; count = λ e. refl; name = λ id e q. q }
+clear-old-named-lessens (some (plain r)) = record { keys = λ e. refl; count = λ e. refl; name = λ id e q. q }
 
 directories-lessen : (k : Key) (v : Bytes) → Lessens (setDirectories k v)
 unfolding setDirectories countOf namesId
@@ -157,8 +157,8 @@ directories-lessen k v = record { keys = key-directories k v; count = count; nam
 pub directories-topics : (k : Key) (v : Bytes) (l : List Entry) → Topics l → Topics (map (setDirectories k v) l)
 directories-topics k v = map-topics (setDirectories k v) (directories-lessen k v)
 
-pub unname-old-topics : (o : Option Entry) (l : List Entry) → Topics l → Topics (map (unnameOld o) l)
-unname-old-topics o = map-topics (unnameOld o) (unname-old-lessens o)
+pub clear-old-named-topics : (o : Option Entry) (l : List Entry) → Topics l → Topics (map (clearOldNamed o) l)
+clear-old-named-topics o = map-topics (clearOldNamed o) (clear-old-named-lessens o)
 
 -- 3. A topic's end
 
@@ -199,10 +199,10 @@ keep-topics name l asc t = record { counts = counts; named = λ id a b p q. t .n
 -- 4. A topic
 
 -- what is unnamed for an id is named for no topic
-none-named : (i a : Bytes) (l : List Entry) → names i a (map (unname i) l) ≡ false
-none-named i a l = rw (get-map key key (unname i) (key-unname i) (topicKey a) l) (go (get key (topicKey a) l))
+none-named : (i a : Bytes) (l : List Entry) → names i a (map (clearNamed i) l) ≡ false
+none-named i a l = rw (get-map key key (clearNamed i) (key-clear-named i) (topicKey a) l) (go (get key (topicKey a) l))
   where
-    go : (o : Option Entry) → given (over (unname i) o) false (namesId i) ≡ false
+    go : (o : Option Entry) → given (over (clearNamed i) o) false (namesId i) ≡ false
     go none = refl
     go (some e) = unnamed i e
 
@@ -266,28 +266,28 @@ module _ (name id : Bytes) (count factor : ℕ) (m : List Entry) where
 
 pub topic-topics : (name id : Bytes) (factor : ℕ) (l : List Entry) → Topics l
     → let old = get key (topicKey name) l in
-    Topics (put key (topic name id (countOf old) factor true) (map (unname id) (map (unnameOld old) l)))
+    Topics (put key (topic name id (countOf old) factor true) (map (clearNamed id) (map (clearOldNamed old) l)))
 topic-topics name id factor l t =
     let old = get key (topicKey name) l in
-    let before = map (unnameOld old) l in
-    let m = map (unname id) before in
+    let before = map (clearOldNamed old) l in
+    let m = map (clearNamed id) before in
     let few : countOf old ≤ partitions name m =
-    rw (partitions-map (unname id) (key-unname id) name before, partitions-map (unnameOld old) (key-unname-old old) name l)
+    rw (partitions-map (clearNamed id) (key-clear-named id) name before, partitions-map (clearOldNamed old) (key-clear-old-named old) name l)
     (t .counts name) in
-    put-topic name id (countOf old) factor m (map-topics (unname id) (unname-lessens id) before (unname-old-topics old l t)) few
+    put-topic name id (countOf old) factor m (map-topics (clearNamed id) (clear-named-lessens id) before (clear-old-named-topics old l t)) few
     (λ a. none-named id a before)
 
 -- 5. A partition
 
-tell-names : (name : Bytes) (new factor : ℕ) (i : Bytes) (e : Entry) → namesId i (tell name new factor e) ≡ namesId i e
-unfolding tell namesId
-tell-names name new factor i (topic n id c f named) = go (sameBytes n name)
+count-partition-names : (name : Bytes) (new factor : ℕ) (i : Bytes) (e : Entry) → namesId i (countPartition name new factor e) ≡ namesId i e
+unfolding countPartition namesId
+count-partition-names name new factor i (topic n id c f named) = go (sameBytes n name)
   where
     go : (b : Bool) → namesId i (cond b (topic n id (c + new) factor named) (topic n id c f named)) ≡ named && sameBytes id i
     go true = refl
     go false = refl
-tell-names name new factor i (part r) = refl
-tell-names name new factor i (plain r) = refl
+count-partition-names name new factor i (part r) = refl
+count-partition-names name new factor i (plain r) = refl
 
 -- the entries after it
 abbrev after : Run → List Entry → List Entry
@@ -312,7 +312,7 @@ module _ (r : Run) (l : List Entry) where
 
   told-count : (n : Bytes) (o : Option Entry) → get key (topicKey n) l ≡ o → countOf o ≤ partitions n l
       → countOf (over (told r l) o) ≤ partitions n l + cond (sameBytes (partitionTopic r) n) (added r l) 0
-  unfolding tell countOf key
+  unfolding countPartition countOf key
   told-count n none e h = omega arith
   told-count n (some (topic a id c f named)) e h =
       let called : a ≡ n = let k = get-in key (topicKey n) l (topic a id c f named) e .1 in cc in
@@ -330,7 +330,7 @@ module _ (r : Run) (l : List Entry) where
 
   told-names : (id n : Bytes) → names id n (after r l) ≡ true → names id n l ≡ true
   told-names id n p =
-      over-names (told r l) id (λ e q. rw (tell-names (partitionTopic r) (added r l) (nodeCount (replicas r)) id e) at q)
+      over-names (told r l) id (λ e q. rw (count-partition-names (partitionTopic r) (added r l) (nodeCount (replicas r)) id e) at q)
       (get key (topicKey n) l) (rw (found-told n) at p)
 
   pub part-topics : Topics l → Topics (put key (part r) (map (told r l) l))

@@ -15,7 +15,7 @@ use Rattle.model.specs.Text.{textAfter}
 use Rattle.model.specs.Shape.{rowsOf, shapeOf, stored, fault}
 use Rattle.model.specs.Record.{Rec, rec}
 use Rattle.model.specs.Key.{rank, namePart, numberPart, entitiesKey, subject, keyOf, groupKey, startsWith}
-use Rattle.model.specs.Contents.{Entry, topic, part, plain, shown, key, recordKey, groupOf, inGroupOf}
+use Rattle.model.specs.Contents.{Entry, topic, part, plain, returned, key, recordKey, groupOf, inGroupOf}
 use Rattle.model.specs.Contents.{typesInOrder, isConfig, isQuota, isBare, isGroup}
 use Rattle.model.specs.declared.Kind.{Kind}
 use Rattle.model.specs.declared.Kind.the-variants.{BrokerConfig, ClientQuota}
@@ -137,11 +137,11 @@ group-of-start {k} g r other s h =
 -- 4. Members of a group
 
 -- an entry's key is its record's
-pub key-shown : (e : Entry) → key e ≡ recordKey (shown e)
-unfolding key shown keyOf subject field
-key-shown (topic name id count factor named) = refl
-key-shown (part r) = refl
-key-shown (plain r) = refl
+pub key-returned : (e : Entry) → key e ≡ recordKey (returned e)
+unfolding key returned keyOf subject field
+key-returned (topic name id count factor named) = refl
+key-returned (part r) = refl
+key-returned (plain r) = refl
 
 start-of-group : (g k : Key) → groupKey k ≡ g → startsWith g k ≡ true
 start-of-group g k e = rw (← e) (starts-group k)
@@ -151,7 +151,7 @@ module _ (r : Rec) (g : Grouped (r .kind)) where
   in-group e = (there, start-of-group (groupKey (recordKey r)) (key e))
     where
       there : inGroupOf r (key e) ≡ true → groupKey (key e) ≡ groupKey (recordKey r)
-      there = rw (key-shown e) (group-of-start g (r .run) (shown e .kind) (shown e .run))
+      there = rw (key-returned e) (group-of-start g (r .run) (returned e .kind) (returned e .run))
 
   pub in-group-record : (s : Rec) → (inGroupOf r (recordKey s) ≡ true) ↔ (groupKey (recordKey s) ≡ groupKey (recordKey r))
   in-group-record s = (group-of-start g (r .run) (s .kind) (s .run), start-of-group (groupKey (recordKey r)) (recordKey s))

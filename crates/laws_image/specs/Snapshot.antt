@@ -12,7 +12,7 @@ use Rattle.model.specs.Run.{done, item, bytesOf}
 use Rattle.model.specs.Shape.{rowsOf, anyRequired, mayFollow, leafFault, runFault, valueFault, logged, shapeOf, fault}
 use Rattle.model.specs.Record.{Rec, rec, recordBytes}
 use Rattle.model.specs.Items.{itemsOf, records, isWhole}
-use Rattle.model.specs.Contents.{Entry, topic, part, plain, shown, kept, Fixed, Contents}
+use Rattle.model.specs.Contents.{Entry, topic, part, plain, returned, kept, Fixed, Contents}
 use Rattle.model.specs.Image.{headSize}
 use Rattle.model.specs.Snapshot.{epochRecords, kraftRecords, trail, snapshot}
 use Rattle.model.specs.declared.Kind.the-variants.{Topic, Partition, FeaturesEpoch, KRaftVersion}
@@ -36,16 +36,16 @@ Loggable r = (fault logged (r .kind) (r .run) ≡ 0) × AreFields (r .run)
 partition-topic : Partition ≡ Topic → ⊥
 partition-topic e = impossible cc
 
-pub shown-passes : (e : Entry) → Storable e → Proper e → Loggable (shown e)
-unfolding shown kept
-shown-passes (topic name id count factor named) s p =
+pub returned-passes : (e : Entry) → Storable e → Proper e → Loggable (returned e)
+unfolding returned kept
+returned-passes (topic name id count factor named) s p =
     let f = p .readable .fields in
     let third = f .2 .2 in (
       sym (fault-topic name id count factor named) ∙ p .readable .passes,
       (f .0, f .1, (f .2 .0, f .2 .1, (third .0, third .1, (third .2 .0, third .2 .1, tt)))),
     )
-shown-passes (part r) s p = (sym (fault-stored Partition partition-topic r) ∙ p .readable .passes, p .readable .fields)
-shown-passes (plain r) s p =
+returned-passes (part r) s p = (sym (fault-stored Partition partition-topic r) ∙ p .readable .passes, p .readable .fields)
+returned-passes (plain r) s p =
     (sym (fault-stored (r .kind) (not-topic (r .kind) (r .run) s) (r .run)) ∙ p .readable .passes, p .readable .fields)
 
 epoch-passes : (e : ℕ) → All Loggable (epochRecords e)
@@ -66,16 +66,16 @@ kraft-passes v = go (eqb v 0)
 
 -- 2. Their length
 
-shown-size : (e : Entry) → length (recordBytes (shown e)) ≤ storedSize e
-unfolding shown kept
-shown-size (topic name id count factor named) = omega (arith, topic-size name id count factor named)
-shown-size (part r) = omega arith
-shown-size (plain r) = omega arith
+returned-size : (e : Entry) → length (recordBytes (returned e)) ≤ storedSize e
+unfolding returned kept
+returned-size (topic name id count factor named) = omega (arith, topic-size name id count factor named)
+returned-size (part r) = omega arith
+returned-size (plain r) = omega arith
 
-shown-total : (l : List Entry) → total (λ e. length (recordBytes (shown e))) l ≤ total storedSize l
+returned-total : (l : List Entry) → total (λ e. length (recordBytes (returned e))) l ≤ total storedSize l
 unfolding total
-shown-total [] = omega arith
-shown-total (e ∷ l) = let h = shown-total l in let k = shown-size e in omega arith
+returned-total [] = omega arith
+returned-total (e ∷ l) = let h = returned-total l in let k = returned-size e in omega arith
 
 epoch-length : (e : ℕ) → length (joined recordBytes (epochRecords e)) ≤ 14
 unfolding epochRecords recordBytes bytesOf
@@ -106,20 +106,20 @@ module _ (capacity : ℕ) (c : Contents) (f : Fits capacity c) where
       let epoch = c .fixed .epoch in
       let kraft = c .fixed .kraft in
       let both = all-both Storable Proper (c .real) (orderly c (f .orderly) .storables) (f .entries) in
-      let entries = all-map (λ e. Storable e × Proper e) Loggable shown (λ e p. shown-passes e (p .0) (p .1)) (c .real) both in
+      let entries = all-map (λ e. Storable e × Proper e) Loggable returned (λ e p. returned-passes e (p .0) (p .1)) (c .real) both in
       let last = all-append Loggable (epochRecords epoch) (kraftRecords kraft) (epoch-passes epoch) (kraft-passes kraft) in
-      all-append Loggable (map shown (c .real)) (trail (c .fixed)) entries last
+      all-append Loggable (map returned (c .real)) (trail (c .fixed)) entries last
 
   pub snapshot-fits : length (joined recordBytes (snapshot c)) ≤ capacity
   unfolding snapshot
   snapshot-fits =
       rw (
-        joined-append recordBytes (map shown (c .real)) (trail (c .fixed)),
+        joined-append recordBytes (map returned (c .real)) (trail (c .fixed)),
         length-append,
-        joined-map recordBytes shown (c .real),
-        length-joined (λ e. recordBytes (shown e)) (c .real),
+        joined-map recordBytes returned (c .real),
+        length-joined (λ e. recordBytes (returned e)) (c .real),
       )
-      (omega (arith, shown-total (c .real), trail-length (c .fixed), length-entries c, used-fits capacity c f))
+      (omega (arith, returned-total (c .real), trail-length (c .fixed), length-entries c, used-fits capacity c f))
 
   -- its bytes are read back as its records
   pub snapshot-back : (records (itemsOf logged (joined recordBytes (snapshot c))) ≡ snapshot c)

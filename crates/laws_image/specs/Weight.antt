@@ -15,7 +15,7 @@ use Rattle.model.specs.Shape.{rowsOf, shapeOf, stored, fault}
 use Rattle.model.specs.Record.{rec, recordBytes}
 use Rattle.model.specs.Key.{rank, keyRank, subject, keyOf, producerKey}
 use Rattle.model.specs.Map.{get}
-use Rattle.model.specs.Contents.{Entry, topic, part, plain, shown, kept, key, Contents, fixedRoom, isProducerIds, size, weight, flagBytes}
+use Rattle.model.specs.Contents.{Entry, topic, part, plain, returned, kept, key, Contents, fixedRoom, isProducerIds, size, weight, flagBytes}
 use Rattle.model.specs.Image.{headSize, entryBytes, used}
 use Rattle.model.specs.declared.Kind.{Kind}
 use Rattle.model.specs.declared.Kind.the-variants.{ProducerIds}
@@ -53,8 +53,8 @@ length-flag false = refl
 
 -- a topic's record in an image has one field of five bytes more
 pub topic-size : (name id : Bytes) (count factor : ℕ) (named : Bool)
-    → length (recordBytes (shown (topic name id count factor named))) + 8 ≡ storedSize (topic name id count factor named)
-unfolding kept shown
+    → length (recordBytes (returned (topic name id count factor named))) + 8 ≡ storedSize (topic name id count factor named)
+unfolding kept returned
 topic-size name id count factor named = simp (length-record, length-item, length-done, length-flag) (omega arith)
 
 size-other : (e : Entry) → (key e ≡ producerKey → ⊥) → size e ≡ storedSize e

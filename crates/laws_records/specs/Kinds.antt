@@ -45,10 +45,10 @@ abbrev Numbered : ℕ → List Kind → Type 0
 Numbered n [] = Unit {0}
 Numbered n (k ∷ l) = (kindNumber k ≡ n) × Numbered (suc n) l
 
-numbered : (n i : ℕ) (l : List Kind) (k : Kind) → Numbered n l → getElem? l i ≡ some k → kindNumber k ≡ n + i
-numbered n i [] k h e = impossible cc
-numbered n zero (x ∷ l) k h e = let q : x ≡ k = cc in rw (← q, add-zero) (h .0)
-numbered n (suc i) (x ∷ l) k h e = let q = numbered (suc n) i l k (h .1) e in omega arith
+nth-kind : (n i : ℕ) (l : List Kind) (k : Kind) → Numbered n l → getElem? l i ≡ some k → kindNumber k ≡ n + i
+nth-kind n i [] k h e = impossible cc
+nth-kind n zero (x ∷ l) k h e = let q : x ≡ k = cc in rw (← q, add-zero) (h .0)
+nth-kind n (suc i) (x ∷ l) k h e = let q = nth-kind (suc n) i l k (h .1) e in omega arith
 
 kinds-numbered : Numbered 1 kinds
 unfolding kinds kindNumber
@@ -97,7 +97,7 @@ pub number-kind : (n : ℕ) (k : Kind) → kindOf n ≡ some k → kindNumber k 
 unfolding kindOf kindNumber
 number-kind zero k e = impossible cc
 number-kind (suc n) k e =
-    let q = numbered 1 n kinds k kinds-numbered e in
+    let q = nth-kind 1 n kinds k kinds-numbered e in
     omega arith
 
 -- kinds with the same number are the same

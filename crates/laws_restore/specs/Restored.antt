@@ -16,7 +16,7 @@ use Rattle.model.specs.Record.{Rec, rec, recordBytes}
 use Rattle.model.specs.Items.{itemsOf}
 use Rattle.model.specs.Map.{count}
 use Rattle.model.specs.Reply.{accepted}
-use Rattle.model.specs.Contents.{Entry, shown, key, Fixed, Contents, fresh, fixedRoom, size, weight}
+use Rattle.model.specs.Contents.{Entry, returned, key, Fixed, Contents, fresh, fixedRoom, size, weight}
 use Rattle.model.specs.Image.{mostCapacity, imageOf}
 use Rattle.model.specs.Move.{onReal, onEmpties, onFixed, move, moves, plan, moved, overflows}
 use Rattle.model.specs.Apply.{becomes, apply}
@@ -40,7 +40,7 @@ use Rattle.laws_restore.specs.Steps.{apply-fits, apply-more}
 module _ (capacity : ℕ) (most : capacity ≤ mostCapacity) where
   pub replay-entries : (l m : List Entry) (rs : List Rec) → Asc key (l ++ m) → All Storable m → All Proper m
       → fixedRoom + total size (l ++ m) ≤ capacity
-      → replayRecords capacity (map shown m ++ rs) (settled l) ≡ replayRecords capacity rs (settled (l ++ m))
+      → replayRecords capacity (map returned m ++ rs) (settled l) ≡ replayRecords capacity rs (settled (l ++ m))
   unfolding total
   replay-entries l [] rs a s p w = rw (append-nil l)
   replay-entries l (e ∷ m) rs a s p w =
@@ -50,7 +50,7 @@ module _ (capacity : ℕ) (most : capacity ≤ mostCapacity) where
       let some = total-append size l (e ∷ []) in
       let few : levels l < half 8 = omega (arith, levels-total l) in
       let one = apply-more capacity l e (s .0) (p .0) (asc-under key l e m a) few (omega (arith, weight-settled next)) in
-      replay-cons capacity (shown e) (map shown m ++ rs) (settled l) (settled next) one
+      replay-cons capacity (returned e) (map returned m ++ rs) (settled l) (settled next) one
       ∙ replay-entries next m rs (rw again a) (s .1) (p .1) (rw again w)
       ∙ rw again
 
@@ -127,7 +127,7 @@ module _ (capacity : ℕ) (c : Contents) (fits : Fits capacity c) where
       let o = orderly c (fits .orderly) in
       let made = settled l in
       let raised = withFixed (record { epoch = restoredEpoch (levels l) e; kraft = 0 }) made in
-      ap (replayRecords capacity (map shown l ++ trail (c .fixed))) (sym settled-fresh)
+      ap (replayRecords capacity (map returned l ++ trail (c .fixed))) (sym settled-fresh)
       ∙ replay-entries capacity (capacity-most capacity (fits .within)) [] l (trail (c .fixed)) (o .ascends) (o .storables) (fits .entries)
       (omega (arith, weight-settled l, settled-room))
       ∙ replay-after capacity (epochRecords e) (kraftRecords v) made raised (replay-epoch capacity made settled-room e (fits .epoch))

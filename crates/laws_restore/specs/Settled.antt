@@ -15,7 +15,7 @@ use Rattle.model.specs.Record.{Rec}
 use Rattle.model.specs.Key.{rank, subject, keyOf, topicKey, keyRank, keyName}
 use Rattle.model.specs.Map.{count}
 use Rattle.model.specs.Contents.{Entry, topic, part, plain, key, recordKey, Contents, ofTopic, partitions, storable}
-use Rattle.model.specs.Move.{partitionTopic, replicas, nodeCount, unname, tell}
+use Rattle.model.specs.Move.{partitionTopic, replicas, nodeCount, clearNamed, countPartition}
 use Rattle.model.specs.Snapshot.{lastFactor, restoredFactor, lastOwner, ownerOf, restoredEntry, isLevel, levels, lessOne}
 use Rattle.model.specs.declared.Kind.the-variants.{Partition}
 use Rattle.laws.specs.Order.{Lt, lt-ne, lt-rank, sameBytes-self, sameBytes-sym, apart-sameBytes}
@@ -85,8 +85,8 @@ names-apart a b h = apart-sameBytes b a (λ e. lt-ne h (ap topicKey (sym e)))
 
 -- a topic takes its id from the ones before it
 pub restored-topic : (l : List Entry) (name id : Bytes) (count factor : ℕ) (named : Bool) (x : Entry) → Lt (key x) (topicKey name)
-    → restoredEntry (l ++ (topic name id count factor named ∷ [])) x ≡ unname id (restoredEntry l x)
-unfolding restoredEntry lastFactor lastOwner unname key ofTopic keyRank rank
+    → restoredEntry (l ++ (topic name id count factor named ∷ [])) x ≡ clearNamed id (restoredEntry l x)
+unfolding restoredEntry lastFactor lastOwner clearNamed key ofTopic keyRank rank
 restored-topic l name id count factor named (topic n i c f b) h =
     simp (partitions-more, factor-more, owner-more, add-zero, sameBytes-sym id i) (go (sameBytes i id))
   where
@@ -100,8 +100,8 @@ restored-topic l name id count factor named (plain f) h = refl
 
 -- a partition tells its topic
 pub restored-part : (l : List Entry) (r : Run) (x : Entry)
-    → restoredEntry (l ++ (part r ∷ [])) x ≡ tell (partitionTopic r) 1 (nodeCount (replicas r)) (restoredEntry l x)
-unfolding restoredEntry lastFactor lastOwner tell key keyOf subject ofTopic keyRank keyName rank
+    → restoredEntry (l ++ (part r ∷ [])) x ≡ countPartition (partitionTopic r) 1 (nodeCount (replicas r)) (restoredEntry l x)
+unfolding restoredEntry lastFactor lastOwner countPartition key keyOf subject ofTopic keyRank keyName rank
 restored-part l r (topic n i c f b) =
     simp (partitions-more, factor-more, owner-more, sameBytes-sym n (partitionTopic r)) (go (sameBytes (partitionTopic r) n))
   where

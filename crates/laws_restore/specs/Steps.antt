@@ -14,8 +14,8 @@ use Rattle.model.specs.Run.{Run, field}
 use Rattle.model.specs.Record.{Rec, rec}
 use Rattle.model.specs.Key.{rank, keyOf, keyRank, topicKey}
 use Rattle.model.specs.Map.{put, get, remove}
-use Rattle.model.specs.Contents.{Entry, topic, part, plain, shown, key, recordKey, storable, Fixed, Contents, weight}
-use Rattle.model.specs.Move.{Move, topicM, partM, unname, unnameOld, countOf, tell, partitionTopic, replicas, nodeCount}
+use Rattle.model.specs.Contents.{Entry, topic, part, plain, returned, key, recordKey, storable, Fixed, Contents, weight}
+use Rattle.model.specs.Move.{Move, topicM, partM, clearNamed, clearOldNamed, countOf, countPartition, partitionTopic, replicas, nodeCount}
 use Rattle.model.specs.Move.{onReal, onEmpties, bumped, onFixed, move, moves, plan, moved, overflows}
 use Rattle.model.specs.Apply.{stays, becomes, apply}
 use Rattle.model.specs.Snapshot.{restoredEntry, isLevel, levels, lessOne}
@@ -26,8 +26,8 @@ use Rattle.laws.specs.Map.{Under, put-last, get-last, under-map}
 use Rattle.laws.specs.Numbers.{number-bytes}
 use Rattle.laws_image.specs.Fits.{Proper}
 use Rattle.laws_image.specs.Orderly.{Storable}
-use Rattle.laws_image.specs.Snapshot.{Loggable, shown-passes}
-use Rattle.laws_image.specs.Groups.{key-shown}
+use Rattle.laws_image.specs.Snapshot.{Loggable, returned-passes}
+use Rattle.laws_image.specs.Groups.{key-returned}
 use Rattle.laws_restore.specs.Settled.{settled, levels-more, key-restored}
 use Rattle.laws_restore.specs.Settled.{restored-plain, restored-topic, restored-part, restored-new}
 use Rattle.laws_restore.specs.Plans.{Stores, puts, joins, bumps, plan-stores, overflows-new}
@@ -61,19 +61,19 @@ module _ (l : List Entry) where
   topic-real : (name id : Bytes) (count factor : ℕ) (named : Bool) → Under key (topicKey name) l
       → onReal (topicM name id factor) (map (restoredEntry l) l)
       ≡ map (restoredEntry (l ++ (topic name id count factor named ∷ []))) (l ++ (topic name id count factor named ∷ []))
-  unfolding onReal countOf unnameOld key
+  unfolding onReal countOf clearOldNamed key
   topic-real name id count factor named u =
       let e = topic name id count factor named in
       let f = restoredEntry (l ++ (e ∷ [])) in
       let before = map (restoredEntry l) l in
-      let others : map f l ≡ map (unname id) before =
-      map-all f (λ x. unname id (restoredEntry l x)) l
-      (all-imp (λ x. Lt (key x) (topicKey name)) (λ x. f x ≡ unname id (restoredEntry l x))
+      let others : map f l ≡ map (clearNamed id) before =
+      map-all f (λ x. clearNamed id (restoredEntry l x)) l
+      (all-imp (λ x. Lt (key x) (topicKey name)) (λ x. f x ≡ clearNamed id (restoredEntry l x))
       (restored-topic l name id count factor named) l u)
-      ∙ sym (map-map (unname id) (restoredEntry l) l) in
+      ∙ sym (map-map (clearNamed id) (restoredEntry l) l) in
       let old : get key (topicKey name) before ≡ none = none-yet l e u in
-      rw (old, map-same (unnameOld none) before (all-any (λ x. unnameOld none x ≡ x) (λ x. refl) before))
-      (put-more l e u (topic name id 0 factor true) (map (unname id) before) (restored-new l name id count factor named u) others)
+      rw (old, map-same (clearOldNamed none) before (all-any (λ x. clearOldNamed none x ≡ x) (λ x. refl) before))
+      (put-more l e u (topic name id 0 factor true) (map (clearNamed id) before) (restored-new l name id count factor named u) others)
 
   part-real : (r : Run) → Under key (keyOf Partition r) l
       → onReal (partM r) (map (restoredEntry l) l) ≡ map (restoredEntry (l ++ (part r ∷ []))) (l ++ (part r ∷ []))
@@ -81,7 +81,7 @@ module _ (l : List Entry) where
   part-real r u =
       let f = restoredEntry (l ++ (part r ∷ [])) in
       let before = map (restoredEntry l) l in
-      let told = tell (partitionTopic r) 1 (nodeCount (replicas r)) in
+      let told = countPartition (partitionTopic r) 1 (nodeCount (replicas r)) in
       let others : map f l ≡ map told before =
       map-all f (λ x. told (restoredEntry l x)) l (all-any (λ x. f x ≡ told (restoredEntry l x)) (restored-part l r) l)
       ∙ sym (map-map told (restoredEntry l) l) in
@@ -133,8 +133,8 @@ module _ (l : List Entry) where
       ∙ (λ i. record { real = plain-real l r s u i; empties = []; fixed = record { epoch = epoch-step (plain r) small i; kraft = 0 } })
 
   topic-step : (name id : Bytes) (count factor : ℕ) (named : Bool) → factor < span 2 → Under key (topicKey name) l
-      → moved (shown (topic name id count factor named)) (settled l) ≡ settled (l ++ (topic name id count factor named ∷ []))
-  unfolding moved moves plan shown field move onEmpties onFixed isLevel key keyRank rank
+      → moved (returned (topic name id count factor named)) (settled l) ≡ settled (l ++ (topic name id count factor named ∷ []))
+  unfolding moved moves plan returned field move onEmpties onFixed isLevel key keyRank rank
   topic-step name id count factor named h u =
       let e = topic name id count factor named in
       let real =
@@ -148,11 +148,11 @@ module _ (l : List Entry) where
       λ i. record { real = part-real l r u i; empties = []; fixed = record { epoch = lessOne (levels-same (part r) refl i); kraft = 0 } }
 
   pub moved-more : (e : Entry) → Storable e → Proper e → Under key (key e) l → levels l < half 8
-      → moved (shown e) (settled l) ≡ settled (l ++ (e ∷ []))
-  unfolding key shown
+      → moved (returned e) (settled l) ≡ settled (l ++ (e ∷ []))
+  unfolding key returned
   moved-more (topic name id count factor named) s p u small = topic-step name id count factor named (p .numbers .1) u
   moved-more (part r) s p u small = part-step r u
-  moved-more (plain r) s p u small = plain-step r s (shown-passes (plain r) s p) u small
+  moved-more (plain r) s p u small = plain-step r s (returned-passes (plain r) s p) u small
 
 -- 4. Apply
 
@@ -164,8 +164,8 @@ apply-fits capacity r c d o e w =
     rw o (ap (λ x. cond (leb (weight x) capacity) (becomes x) (stays 18)) e ∙ rw (le-leb (weight d) capacity w))
 
 pub apply-more : (capacity : ℕ) (l : List Entry) (e : Entry) → Storable e → Proper e → Under key (key e) l → levels l < half 8
-    → weight (settled (l ++ (e ∷ []))) ≤ capacity → apply capacity (shown e) (settled l) ≡ becomes (settled (l ++ (e ∷ [])))
+    → weight (settled (l ++ (e ∷ []))) ≤ capacity → apply capacity (returned e) (settled l) ≡ becomes (settled (l ++ (e ∷ [])))
 apply-more capacity l e s p u small w =
-    let new : get key (recordKey (shown e)) (settled l .real) ≡ none = rw (← key-shown e) (none-yet l e u) in
-    let first = overflows-new (shown e) (settled l .real) new in
-    apply-fits capacity (shown e) (settled l) (settled (l ++ (e ∷ []))) first (moved-more l e s p u small) w
+    let new : get key (recordKey (returned e)) (settled l .real) ≡ none = rw (← key-returned e) (none-yet l e u) in
+    let first = overflows-new (returned e) (settled l .real) new in
+    apply-fits capacity (returned e) (settled l) (settled (l ++ (e ∷ []))) first (moved-more l e s p u small) w

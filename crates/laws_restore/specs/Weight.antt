@@ -14,7 +14,7 @@ use Rattle.model.specs.Kind.{kindNumber}
 use Rattle.model.specs.Record.{rec, recordBytes}
 use Rattle.model.specs.Key.{rank, keyOf, keyRank, keyName}
 use Rattle.model.specs.Map.{count}
-use Rattle.model.specs.Contents.{Entry, topic, part, plain, shown, key, ofTopic, partitions, fixedRoom, isProducerIds, size, weight}
+use Rattle.model.specs.Contents.{Entry, topic, part, plain, returned, key, ofTopic, partitions, fixedRoom, isProducerIds, size, weight}
 use Rattle.model.specs.Snapshot.{restoredEntry, isLevel, levels}
 use Rattle.model.specs.declared.Kind.the-variants.{Partition, FeatureLevel, ProducerIds}
 use Rattle.laws.specs.Choice.{and-left}
@@ -27,7 +27,7 @@ use Rattle.laws_restore.specs.Settled.{settled}
 
 -- a topic weighs the same whatever its count, factor and flag
 pub size-restored : (l : List Entry) (e : Entry) → size (restoredEntry l e) ≡ size e
-unfolding restoredEntry size shown
+unfolding restoredEntry size returned
 size-restored l (topic name id count factor named) = simp (length-record, length-item)
 size-restored l (part r) = refl
 size-restored l (plain r) = refl

@@ -28,11 +28,12 @@ use Rattle.entries.specs.Entries.{recordsIn}
 use Rattle.find.specs.Found.{queryKey, foundIn}
 use Rattle.find.specs.Reals.{Reals}
 use Rattle.find.proofs.Lent.{lent-held}
-use Rattle.judge.proofs.Queries.{topic-key, partition-key, broker-key}
+use Rattle.find.proofs.Queries.{topic-key, partition-key, broker-key}
 use Rattle.lookup_rates.specs.Rates.{rated}
 use Rattle.lookup_rates.specs.declared.Rate.{Rate}
-use Rattle.lookup.specs.Values.{rating, ratedAs}
-use Rattle.lookup.specs.declared.Rated.{Rated}
+use Rattle.model.specs.Answers.{rating}
+use Rattle.lookup.specs.Values.{ratedAs}
+use Rattle.model.specs.declared.answers.Rated.{Rated}
 
 -- 1. The real entries, as they are lent
 

@@ -1,7 +1,7 @@
 // Lookups: a stored entry as its record, the features epoch, the number of short partitions, the freeze of a name, a rate.
 use find::emit_found;
 use find::reals_end;
-use header::NO_IMAGE;
+use header::HEAD_SIZE;
 use header::epoch_in;
 use image::is_image;
 use lookup_freezes::emit_freeze;
@@ -10,8 +10,14 @@ use lookup_scans::emit_named;
 use lookup_scans::short_in;
 use lookup_throttles::rate_in;
 use model::NodeId;
-use records::Answer;
-use shape_faults::WRONG;
+use model::answers::Answer;
+use model::answers::Rated;
+use model::answers::Value;
+use model::kinds::BROKER_REGISTRATION;
+use model::kinds::PARTITION;
+use model::kinds::TOPIC;
+use model::refusals::NO_IMAGE;
+use model::refusals::WRONG;
 use shape_faults::text_fault;
 ghost use mathlib.Core.Path.{_≡_};
 ghost use mathlib.Core.Bool.{true};
@@ -22,25 +28,12 @@ ghost use Rattle.model.specs.Contents.{key};
 ghost use Rattle.model.specs.Image.{isImage, contentsOf};
 ghost use Rattle.model.specs.Snapshot.{emit};
 ghost use Rattle.model.specs.Lookup.{found, topicByName, topicById, partitionOf, brokerOf, epochOf, shortOf, throttle as throttleIn, freezeOf, throttleOf};
-ghost use Rattle.records.specs.Answers.{replied};
+ghost use Rattle.model.specs.Answers.{replied, valued, rating};
 ghost use Rattle.find.specs.Found.{Query, queryKey};
-ghost use Rattle.lookup.specs.Values.{valued, rating, ratedAs};
-
-// The kinds that are looked up.
-const TOPIC: u8 = 1;
-
-const PARTITION: u8 = 2;
-
-const BROKER: u8 = 3;
+ghost use Rattle.lookup.specs.Values.{ratedAs};
 
 // The most bytes of a name.
 const NAME_LIMIT: usize = 255;
-
-// A number, or a refusal's.
-pub enum Value {
-    Is(u64),
-    Refused(u8),
-}
 
 // The entry of a kind that two fields name.
 fn entry(image: &[u8], kind: u8, first: &[u8], second: &[u8], out: &mut [u8]) -> Answer
@@ -49,7 +42,7 @@ fn entry(image: &[u8], kind: u8, first: &[u8], second: &[u8], out: &mut [u8]) ->
     ensures { λ r. ⌜ now (out .exit) ≡ emit (found (get key (queryKey kind (now (first .entry)) (now (second .entry))) (contentsOf (now (image .entry)) .real))) (now (out .entry)) .buffer ⌝ }
 {
     let end = reals_end(image);
-    emit_found(&image[64..end], kind, first, second, out)
+    emit_found(&image[HEAD_SIZE..end], kind, first, second, out)
 }
 
 // The topic of a name.
@@ -76,7 +69,7 @@ pub fn topic_by_id(image: &[u8], id: &[u8; 16], out: &mut [u8]) -> Answer
         return Answer::Refused(NO_IMAGE);
     }
     let end = reals_end(image);
-    emit_named(&image[64..end], id, out)
+    emit_named(&image[HEAD_SIZE..end], id, out)
 }
 
 // The partition of a topic and a number, which is given by its four bytes as an unsigned one.
@@ -106,7 +99,7 @@ pub fn broker(image: &[u8], node: NodeId, out: &mut [u8]) -> Answer
     }
     let mut bytes = [0; 8];
     wire::put(&mut bytes, 0, 8, node.0);
-    entry(image, BROKER, &bytes, b"", out)
+    entry(image, BROKER_REGISTRATION, &bytes, b"", out)
 }
 
 // The features epoch, by its bytes.
@@ -127,7 +120,7 @@ pub fn short_count(image: &[u8]) -> Value
         return Value::Refused(NO_IMAGE);
     }
     let end = reals_end(image);
-    Value::Is(short_in(&image[64..end]))
+    Value::Is(short_in(&image[HEAD_SIZE..end]))
 }
 
 // The freeze of a name: none for an internal one, else its literal scope's, else its longest stored prefix's.
@@ -143,14 +136,7 @@ pub fn freeze(image: &[u8], name: &[u8], out: &mut [u8]) -> Answer
         return Answer::Refused(f);
     }
     let end = reals_end(image);
-    emit_freeze(&image[64..end], name, out)
-}
-
-// A rate, none, or a refusal: none and 0 differ.
-pub enum Rated {
-    Rate(u64),
-    None,
-    Refused(u8),
+    emit_freeze(&image[HEAD_SIZE..end], name, out)
 }
 
 // The rate of a node by the config of a name.
@@ -159,7 +145,7 @@ fn rate(image: &[u8], node: NodeId, name: &[u8]) -> Rated
     ensures { λ r. ⌜ r ≡ ratedAs (throttleIn (node .0) (now (name .entry)) (contentsOf (now (image .entry)) .real)) ⌝ }
 {
     let end = reals_end(image);
-    match rate_in(&image[64..end], node, name) {
+    match rate_in(&image[HEAD_SIZE..end], node, name) {
         Rate::Is(n) => Rated::Rate(n),
         Rate::None => Rated::None,
     }

@@ -18,11 +18,11 @@ use Rattle.model.specs.Kind.{kindOf, kinds}
 use Rattle.model.specs.Record.{Rec}
 use Rattle.model.specs.Key.{keyOf, subject, freezeKey}
 use Rattle.model.specs.Map.{get}
-use Rattle.model.specs.Contents.{Entry, key, kept, shown, recordKey}
+use Rattle.model.specs.Contents.{Entry, key, kept, returned, recordKey}
 use Rattle.model.specs.Image.{entryOf}
 use Rattle.model.specs.Reply.{Reply, accepted}
 use Rattle.model.specs.Snapshot.{emit}
-use Rattle.model.specs.Lookup.{found, beginsWith, internal, literal, prefixed, longestBy, freezeBy, shownAt, freeze, asList}
+use Rattle.model.specs.Lookup.{found, beginsWith, internal, literal, prefixed, longestBy, freezeBy, returnedAt, freeze, asList}
 use Rattle.model.specs.declared.Kind.the-variants.{TopicFreeze}
 use Rattle.laws.specs.Choice.{impossible, over}
 use Rattle.laws.specs.Lists.{in-all}
@@ -35,7 +35,7 @@ use Rattle.entries.specs.Entries.{recordsIn, Entries, Placed, recordIn}
 use Rattle.entries.proofs.Lookups.{present}
 use Rattle.find.specs.Found.{Query, queryKey, foundIn, AllKept, recordAt, PlaceHolds}
 use Rattle.find.proofs.Finds.{found-holds, found-record, emit-nothing}
-use Rattle.judge.specs.Judge.{entriesIn}
+use Rattle.entries.specs.Held.{entriesIn}
 use Rattle.lookup_freezes.specs.Freezes.{frozenIn, Chosen}
 
 -- 1. What is sought
@@ -54,19 +54,19 @@ module _ (s scope pattern : Bytes) {at end : ℕ} (p : Placed s (queryKey 18 sco
 
 -- 2. A place's record
 
-listed : (o : Option Entry) → found o ≡ asList (given o none (λ e. some (shown e)))
+listed : (o : Option Entry) → found o ≡ asList (given o none (λ e. some (returned e)))
 listed none = refl
 listed (some e) = refl
 
-found-shown : (s : Bytes) (k : Key) → foundIn k s ≡ asList (shownAt k (entriesIn s))
+found-returned : (s : Bytes) (k : Key) → foundIn k s ≡ asList (returnedAt k (entriesIn s))
 unfolding foundIn
-found-shown s k = listed (get key k (entriesIn s))
+found-returned s k = listed (get key k (entriesIn s))
 
 chosen-whole : (s : Bytes) (k : Key) {at end : ℕ} → Placed s k at end → AreBytes s → Entries s → AllKept (recordsIn s)
-    → Chosen s (shownAt k (entriesIn s)) at end
+    → Chosen s (returnedAt k (entriesIn s)) at end
 chosen-whole s k {at} {end} p are whole keeps = record {
   holds = found-holds s k at end p are whole keeps;
-  says = found-record s k at end p are whole ∙ found-shown s k;
+  says = found-record s k at end p are whole ∙ found-returned s k;
 }
 
 -- by its place in the rest of the entries, where these have the key's as all have it
@@ -77,7 +77,7 @@ module _ (s : Bytes) (from : ℕ) (k : Key) (same : get recordKey k (recordsIn s
 
   same-record : recordAt s (from + a) (from + e) ≡ recordAt (drop from s) a e
   unfolding recordAt
-  same-record = ap₂ (λ b x. cond b (shown (entryOf (recordIn x)) ∷ []) []) shifted moved
+  same-record = ap₂ (λ b x. cond b (returned (entryOf (recordIn x)) ∷ []) []) shifted moved
     where
       shifted : ltb (from + a) (from + e) ≡ ltb a e
       shifted = elim (decLt a e) [ yes q ↦ lt-ltb (from + a) (from + e) (omega arith) ∙ sym (lt-ltb a e q) | no q ↦ le-ltb (from + a) (from + e) (omega arith) ∙ sym (le-ltb a e (omega arith)) ]
@@ -100,10 +100,10 @@ module _ (s : Bytes) (from : ℕ) (k : Key) (same : get recordKey k (recordsIn s
         within = omega (arith, p .most, length-drop from s);
       }
 
-  pub chosen-part : Chosen s (shownAt k (entriesIn s)) (from + a) (from + e)
+  pub chosen-part : Chosen s (returnedAt k (entriesIn s)) (from + a) (from + e)
   chosen-part = record {
     holds = part-holds;
-    says = same-record ∙ found-record (drop from s) k a e p (drop-are-bytes from s are) whole ∙ same-found ∙ found-shown s k;
+    says = same-record ∙ found-record (drop from s) k a e p (drop-are-bytes from s are) whole ∙ same-found ∙ found-returned s k;
   }
 
 -- the first of two places that is not empty
@@ -113,7 +113,7 @@ module _ (s : Bytes) {o : Option Rec} (other : Option Rec) {at end : ℕ} (c : C
   chosen-first longer = record { holds = c .holds; says = c .says ∙ go o (c .says) }
     where
       go : (x : Option Rec) → recordAt s at end ≡ asList x → asList x ≡ asList (orElse x other)
-      go none e = let z : shown (entryOf (recordIn (slice at end s))) ∷ [] ≡ [] = rw (lt-ltb at end longer) at e in impossible cc
+      go none e = let z : returned (entryOf (recordIn (slice at end s))) ∷ [] ≡ [] = rw (lt-ltb at end longer) at e in impossible cc
       go (some r) e = refl
 
   pub chosen-next : end ≤ at → {a e : ℕ} → Chosen s other a e → Chosen s (orElse o other) a e

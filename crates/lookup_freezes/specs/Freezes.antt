@@ -5,12 +5,12 @@ use Prim.Native.Nat.{ℕ}
 use Rattle.model.specs.Number.{Bytes}
 use Rattle.model.specs.Record.{Rec}
 use Rattle.model.specs.Key.{freezeKey}
-use Rattle.model.specs.Lookup.{shownAt, asList}
+use Rattle.model.specs.Lookup.{returnedAt, asList}
 use Rattle.find.specs.Found.{recordAt, PlaceHolds}
-use Rattle.judge.specs.Judge.{entriesIn}
+use Rattle.entries.specs.Held.{entriesIn}
 
 abbrev pub frozenIn : Bytes → Bytes → Bytes → Option Rec
-frozenIn s pattern scope = shownAt (freezeKey pattern scope) (entriesIn s)
+frozenIn s pattern scope = returnedAt (freezeKey pattern scope) (entriesIn s)
 
 -- the place where a record stands, empty where there is none
 pub record Chosen (s : Bytes) (o : Option Rec) (at end : ℕ) : Type 0 where

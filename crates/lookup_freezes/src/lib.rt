@@ -2,7 +2,8 @@
 use entries::Place;
 use find::emit_place;
 use find::find;
-use records::Answer;
+use model::answers::Answer;
+use model::kinds::TOPIC_FREEZE;
 ghost use mathlib.Core.Path.{_≡_};
 ghost use mathlib.Core.List.{[]};
 ghost use Prim.Native.Nat.{_≤_};
@@ -10,14 +11,11 @@ ghost use lib.ListN.{length};
 ghost use Rattle.model.specs.Choice.{orElse};
 ghost use Rattle.model.specs.Snapshot.{emit};
 ghost use Rattle.model.specs.Lookup.{beginsWith, internal, literal, prefixed, longestBy, freeze, asList};
-ghost use Rattle.records.specs.Answers.{replied};
+ghost use Rattle.model.specs.Answers.{replied};
 ghost use Rattle.entries.specs.Entries.{recordsIn, Entries};
 ghost use Rattle.find.specs.Found.{AllKept};
-ghost use Rattle.judge.specs.Judge.{entriesIn};
+ghost use Rattle.entries.specs.Held.{entriesIn};
 ghost use Rattle.lookup_freezes.specs.Freezes.{frozenIn, Chosen};
-
-// The kind of a freeze.
-const FREEZE: u8 = 18;
 
 // Whether a name is internal: none of these is frozen.
 fn is_internal(name: &[u8]) -> bool
@@ -38,7 +36,7 @@ fn longest(s: &[u8], name: &[u8]) -> Place
     let mut from = 0;
     let mut n = 0;
     loop {
-        let p = find(&s[from..], FREEZE, &name[..n], b"\x01");
+        let p = find(&s[from..], TOPIC_FREEZE, &name[..n], b"\x01");
         let at = from + p.at;
         let end = from + p.end;
         if at < end {
@@ -57,7 +55,7 @@ fn choose(s: &[u8], name: &[u8]) -> Place
     requires { ⌜ Entries (now s) × AllKept (recordsIn (now s)) × (length (now name) ≤ 255) ⌝ }
     ensures { λ r. ⌜ Chosen (now (s .entry)) (orElse (frozenIn (now (s .entry)) literal (now (name .entry))) (longestBy (frozenIn (now (s .entry)) prefixed) [] (now (name .entry)))) (r .at) (r .end) ⌝ }
 {
-    let p = find(s, FREEZE, name, b"\x00");
+    let p = find(s, TOPIC_FREEZE, name, b"\x00");
     if p.at < p.end {
         return p;
     }

@@ -13,7 +13,7 @@ use lib.ListN.{length, take, drop}
 use lib.Seq.{slice}
 use Rattle.model.specs.Number.{Bytes}
 use Rattle.model.specs.Record.{Rec}
-use Rattle.model.specs.Contents.{Entry, kept, shown, namesId}
+use Rattle.model.specs.Contents.{Entry, kept, returned, namesId}
 use Rattle.model.specs.Image.{entryOf}
 use Rattle.model.specs.Reply.{Reply}
 use Rattle.model.specs.Snapshot.{emit}
@@ -107,10 +107,10 @@ module _ (s id : Bytes) (at end : ℕ) (p : NamedAt s id at end) where
   unfolding recordAt
   named-record = elim (decLt at end) [ yes q ↦ there q | no q ↦ nothing (omega arith) ]
     where
-      there : at < end → cond (ltb at end) (shown (entryOf (recordIn (slice at end s))) ∷ []) [] ≡ found (namedOf id (recordsIn s))
+      there : at < end → cond (ltb at end) (returned (entryOf (recordIn (slice at end s))) ∷ []) [] ≡ found (namedOf id (recordsIn s))
       there q = rw (lt-ltb at end q) (sym (ap found (p .present q .names)))
 
-      nothing : end ≤ at → cond (ltb at end) (shown (entryOf (recordIn (slice at end s))) ∷ []) [] ≡ found (namedOf id (recordsIn s))
+      nothing : end ≤ at → cond (ltb at end) (returned (entryOf (recordIn (slice at end s))) ∷ []) [] ≡ found (namedOf id (recordsIn s))
       nothing q = rw (le-ltb at end q) (sym (ap found (p .absent q)))
 
   pub named-emits : (out : Bytes) {r : Reply} {o : Bytes} → (r ≡ emit (recordAt s at end) out .reply) × (o ≡ emit (recordAt s at end) out .buffer)

@@ -24,8 +24,8 @@ use Rattle.keys.proofs.Found.{lent-slice}
 use Rattle.entries.specs.Entries.{Entries, Placed}
 use Rattle.image_entries.proofs.Records.{headed}
 use Rattle.find.specs.Found.{Query, queryKey}
-use Rattle.judge.specs.Judge.{entriesIn}
-use Rattle.judge.proofs.Held.{Held, held as held-at, held-run, none-run}
+use Rattle.entries.specs.Held.{entriesIn}
+use Rattle.find.proofs.Held.{Held, held as held-at, held-run, none-run}
 use Rattle.lookup_rates.specs.Rates.{rateIn}
 use Rattle.lookup_throttles.specs.Throttles.{rateBy}
 

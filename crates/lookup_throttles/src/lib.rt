@@ -5,6 +5,7 @@ use find::find;
 use lookup_rates::Rate;
 use lookup_rates::rate_of;
 use model::NodeId;
+use model::kinds::BROKER_CONFIG;
 use reader::field;
 ghost use mathlib.Core.Path.{_≡_};
 ghost use Prim.Native.Nat.{_≤_};
@@ -12,12 +13,9 @@ ghost use lib.ListN.{length};
 ghost use Rattle.model.specs.Lookup.{defaultNode, configAt, throttle};
 ghost use Rattle.fields.specs.Fields.{held, Within};
 ghost use Rattle.entries.specs.Entries.{Entries};
-ghost use Rattle.judge.specs.Judge.{entriesIn};
+ghost use Rattle.entries.specs.Held.{entriesIn};
 ghost use Rattle.lookup_rates.specs.Rates.{rated};
 ghost use Rattle.lookup_throttles.specs.Throttles.{rateBy};
-
-// The kind of a broker's config, and the tag of its value.
-const CONFIG: u8 = 6;
 
 const VALUE: usize = 3;
 
@@ -31,7 +29,7 @@ fn config_at(s: &[u8], node: NodeId, name: &[u8]) -> Found
 {
     let mut id = [0; 8];
     wire::put(&mut id, 0, 8, node.0);
-    let p = find(s, CONFIG, &id, name);
+    let p = find(s, BROKER_CONFIG, &id, name);
     let at = p.at;
     let end = p.end;
     if end <= at {

@@ -28,10 +28,10 @@ abbrev pub topicRun : Bytes → Bytes → ℕ → ℕ → Run → Run
 topicRun name id count factor rest = item 1 name (item 2 id (item 3 (bytes 4 count) (item 4 (bytes 2 factor) rest)))
 
 -- 01, "A stored entry is returned as its record"
-unfoldable pub shown : Entry → Rec
-shown (topic name id count factor named) = rec Topic (topicRun name id count factor done)
-shown (part r) = rec Partition r
-shown (plain r) = r
+unfoldable pub returned : Entry → Rec
+returned (topic name id count factor named) = rec Topic (topicRun name id count factor done)
+returned (part r) = rec Partition r
+returned (plain r) = r
 
 abbrev pub flagBytes : Bool → Bytes
 flagBytes false = 0 ∷ 0 ∷ 0 ∷ 0 ∷ 0 ∷ []
@@ -94,7 +94,7 @@ abbrev pub isProducerIds : Rec → Bool
 isProducerIds r = eqb (kindNumber (r .kind)) (kindNumber ProducerIds)
 
 unfoldable pub size : Entry → ℕ
-size (topic name id count factor named) = length (recordBytes (shown (topic name id count factor named))) + 8
+size (topic name id count factor named) = length (recordBytes (returned (topic name id count factor named))) + 8
 size (part r) = length (recordBytes (rec Partition r))
 size (plain r) = cond (isProducerIds r) 0 (length (recordBytes r))
 

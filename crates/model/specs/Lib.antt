@@ -1,4 +1,4 @@
--- 01 as definitions, a file for each of its sections. Nothing here is about code.
+-- 01 as definitions, a file for each of its sections. Nothing here is about code, but for Answers: what the code's answers say.
 --
 -- "Leaves first", the document's conventions
 --   integers, big-endian and two's complement ............ Number
@@ -21,7 +21,7 @@
 --   equal contents are equal bytes, unused ones zero ...... Image.imageOf
 --   a buffer is an image exactly if ....................... Image.isImage, with Contents.sound and Contents.storable
 -- "Operations and what they refuse"
---   0, a refusal's buffers, a written prefix, 19 .......... Reply.unchanged, Reply.emitBytes
+--   0, a refusal's buffers, a written prefix, 19 .......... Reply.unchanged, Reply.emitBytes; for each case of an enum: Answers
 --   Open, Read, Write, Validate, Apply .................... Image.openOf, Record.readOf, Record.writeOf, Validate.validateOf, Apply.applyOf
 --   Snapshot, Restore ..................................... Snapshot.snapshotOf, Snapshot.restoreOf
 --   lookups ............................................... Lookup.topicByName and its neighbours
@@ -38,6 +38,7 @@ pub mod Order
 pub mod Kind
 pub mod Shape
 pub mod Reply
+pub mod Answers
 pub mod Record
 pub mod Key
 pub mod Map

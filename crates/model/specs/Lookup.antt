@@ -13,7 +13,7 @@ use Rattle.model.specs.Shape.{stringLimit, textFault}
 use Rattle.model.specs.Record.{Rec}
 use Rattle.model.specs.Key.{topicKey, partitionKey, nodeKey, configKey, freezeKey}
 use Rattle.model.specs.Map.{get}
-use Rattle.model.specs.Contents.{Entry, topic, part, plain, shown, key, namesId}
+use Rattle.model.specs.Contents.{Entry, topic, part, plain, returned, key, namesId}
 use Rattle.model.specs.Image.{isImage, contentsOf}
 use Rattle.model.specs.Move.{runAt, replicas, isr, nodeCount}
 use Rattle.model.specs.Snapshot.{emit}
@@ -24,7 +24,7 @@ use Rattle.model.specs.declared.Kind.the-variants.{Partition, BrokerRegi
 
 abbrev pub found : Option Entry → List Rec
 found none = []
-found (some e) = shown e ∷ []
+found (some e) = returned e ∷ []
 
 -- the checks of a lookup by name, then what it finds
 abbrev pub named : ℕ → List Rec → Bytes → Ended
@@ -101,11 +101,11 @@ longestBy find before (b ∷ name) = orElse (longestBy find (before ++ (b ∷ []
 unfoldable pub freezeBy : (Bytes → Bytes → Option Rec) → Bytes → Option Rec
 freezeBy find name = cond (beginsWith internal name) none (orElse (find literal name) (longestBy (find prefixed) [] name))
 
-abbrev pub shownAt : Key → List Entry → Option Rec
-shownAt k l = given (get key k l) none (λ e. some (shown e))
+abbrev pub returnedAt : Key → List Entry → Option Rec
+returnedAt k l = given (get key k l) none (λ e. some (returned e))
 
 unfoldable pub freeze : Bytes → List Entry → Option Rec
-freeze name l = freezeBy (λ pattern scope. shownAt (freezeKey pattern scope) l) name
+freeze name l = freezeBy (λ pattern scope. returnedAt (freezeKey pattern scope) l) name
 
 abbrev pub asList : Option Rec → List Rec
 asList none = []

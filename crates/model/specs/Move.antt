@@ -37,17 +37,17 @@ pub data Move : Type 0 where
   kraftM : ℕ → Move
 
 -- the id index names no topic for this id
-unfoldable pub unname : Bytes → Entry → Entry
-unname i (topic name id count factor named) = topic name id count factor (cond (sameBytes id i) false named)
-unname i (part r) = part r
-unname i (plain r) = plain r
+unfoldable pub clearNamed : Bytes → Entry → Entry
+clearNamed i (topic name id count factor named) = topic name id count factor (cond (sameBytes id i) false named)
+clearNamed i (part r) = part r
+clearNamed i (plain r) = plain r
 
 -- the same for the id of a stored topic
-unfoldable pub unnameOld : Option Entry → Entry → Entry
-unnameOld none e = e
-unnameOld (some (topic name id count factor named)) e = unname id e
-unnameOld (some (part r)) e = e
-unnameOld (some (plain r)) e = e
+unfoldable pub clearOldNamed : Option Entry → Entry → Entry
+clearOldNamed none e = e
+clearOldNamed (some (topic name id count factor named)) e = clearNamed id e
+clearOldNamed (some (part r)) e = e
+clearOldNamed (some (plain r)) e = e
 
 -- "the stored count stays, else 0"
 unfoldable pub countOf : Option Entry → ℕ
@@ -57,11 +57,11 @@ countOf (some (part r)) = 0
 countOf (some (plain r)) = 0
 
 -- "a new one adds 1 to its topic's count; the replica count becomes the replication factor"
-unfoldable pub tell : Bytes → ℕ → ℕ → Entry → Entry
-tell name new replicas (topic n id count factor named) =
+unfoldable pub countPartition : Bytes → ℕ → ℕ → Entry → Entry
+countPartition name new replicas (topic n id count factor named) =
     cond (sameBytes n name) (topic n id (count + new) replicas named) (topic n id count factor named)
-tell name new replicas (part r) = part r
-tell name new replicas (plain r) = plain r
+countPartition name new replicas (part r) = part r
+countPartition name new replicas (plain r) = plain r
 
 abbrev pub isNew : Option Entry → ℕ
 isNew none = 1
@@ -107,10 +107,10 @@ onReal (leaveM r) l = remove key (recordKey r) l
 -- "A changed id drops the old id's entry; the record's id, changed or not, then names this topic."
 onReal (topicM name id factor) l =
     let old = get key (topicKey name) l in
-    put key (topic name id (countOf old) factor true) (map (unname id) (map (unnameOld old) l))
-onReal (partM r) l = put key (part r) (map (tell (partitionTopic r) (isNew (get key (keyOf Partition r) l)) (nodeCount (replicas r))) l)
+    put key (topic name id (countOf old) factor true) (map (clearNamed id) (map (clearOldNamed old) l))
+onReal (partM r) l = put key (part r) (map (countPartition (partitionTopic r) (isNew (get key (keyOf Partition r) l)) (nodeCount (replicas r))) l)
 onReal (directoriesM k v) l = map (setDirectories k v) l
-onReal (deleteM name) l = keep key (apartFrom name) (map (unnameOld (get key (topicKey name) l)) l)
+onReal (deleteM name) l = keep key (apartFrom name) (map (clearOldNamed (get key (topicKey name) l)) l)
 onReal bumpM l = l
 onReal (epochM e) l = l
 onReal (kraftM v) l = l

@@ -13,7 +13,7 @@ use Rattle.model.specs.Record.{Rec, rec, recordBytes}
 use Rattle.model.specs.Key.{rank, keyRank}
 use Rattle.model.specs.Map.{count}
 use Rattle.model.specs.Items.{Items, end, bad, item as record-item, itemsOf}
-use Rattle.model.specs.Contents.{Entry, topic, part, plain, shown, key, Fixed, Contents, fresh, partitions}
+use Rattle.model.specs.Contents.{Entry, topic, part, plain, returned, key, Fixed, Contents, fresh, partitions}
 use Rattle.model.specs.Image.{isCapacity, isImage, contentsOf, imageOf}
 use Rattle.model.specs.Move.{partitionTopic, replicas, nodeCount}
 use Rattle.model.specs.Apply.{Applied, stays, becomes, apply}
@@ -40,7 +40,7 @@ abbrev pub trail : Fixed → List Rec
 trail f = epochRecords (f .epoch) ++ kraftRecords (f .kraft)
 
 unfoldable pub snapshot : Contents → List Rec
-snapshot c = lead (c .fixed) ++ map shown (c .real) ++ trail (c .fixed)
+snapshot c = lead (c .fixed) ++ map returned (c .real) ++ trail (c .fixed)
 
 unfoldable pub snapshotOf : Bytes → Bytes → Ended
 snapshotOf image out = cond (isImage image) (emit (snapshot (contentsOf image)) out) (unchanged 1 out)

@@ -1,4 +1,7 @@
-// The plain types that the operations share. What they mean stands in `specs/`.
+// The plain types and numbers that the operations share. What they mean stands in `specs/`.
+pub mod answers;
+pub mod kinds;
+pub mod refusals;
 
 // The 25 kinds of record that move an image, by the Rust's names.
 pub enum Kind {

@@ -1,12 +1,12 @@
 // An answer in one number: 01's number in the upper half of a word, and the value that comes with it in the lower half.
 pub mod kinds;
 
-use records::Answer;
+use model::answers::Answer;
 use wire::wide;
 ghost use mathlib.Core.List.{[], _∷_};
 ghost use mathlib.Core.Path.{_≡_};
 ghost use Prim.Native.Nat.{_*_};
-ghost use Rattle.records.specs.Answers.{replied};
+ghost use Rattle.model.specs.Answers.{replied};
 ghost use Rattle.packing.specs.Packed.{packed, firstIs};
 
 // A number with which no value comes.

@@ -16,8 +16,8 @@ use Rattle.laws_records.specs.Writes.{fields-gathered}
 use Rattle.wire.proofs.Rest.{drop-step}
 use Rattle.shape_faults.proofs.Parts.{part-slice}
 use Rattle.shape_faults.proofs.Gathered.{gatheredFrom, no-length, value-cut, next-field}
-use Rattle.records.specs.Answers.{bodyLength, written, head}
-use Rattle.records.proofs.Written.{written-nothing, written-append}
+use Rattle.records.specs.Answers.{bodyLength, putAt, head}
+use Rattle.records.proofs.Written.{put-at-nothing, put-at-append}
 
 -- 1. Lengths
 
@@ -47,14 +47,14 @@ module _ {p : Run} (t : ℕ) (v : Bytes) (r : Run) (e : p ≡ item t v r) (out :
   body : length (bytesOf p) ≡ 3 + (length v + length (bytesOf r))
   body = rw e (length-item t v r)
 
-  rest-written : (next : Bytes) → next ≡ written out to (head t (length v) ++ v)
-      → written next (to + 3 + length v) (bytesOf r) ≡ written out to (bytesOf p)
+  rest-written : (next : Bytes) → next ≡ putAt out to (head t (length v) ++ v)
+      → putAt next (to + 3 + length v) (bytesOf r) ≡ putAt out to (bytesOf p)
   unfolding bytesOf
   rest-written next en =
       let s = head t (length v) ++ v in
       let l : to + length s ≡ to + 3 + length v = omega arith in
       let k : to + length s ≤ length out = omega (arith, body) in
-      rw (en, ← l, e) (written-append out to s k (bytesOf r))
+      rw (en, ← l, e) (put-at-append out to s k (bytesOf r))
 
 -- 3. The fields of three lists, one after another
 
@@ -121,10 +121,10 @@ module _ {tags : Bytes} {lengths : List ℕ} {values : Bytes} {i from : ℕ} {ou
   pub left-after : {written-to : Bytes} → length written-to ≡ length out → Left tags lengths values (i + 1) (from + n) written-to (to + 3 + n)
   left-after e = record { within = value-there; whole = rw next at (left .whole); fits = omega (arith, rest-fits) }
 
-  pub field-written : {written-to : Bytes} → written-to ≡ written out to (head (getD tags i 0) (length v) ++ v)
-      → written written-to (to + 3 + n) (bytesOf rest) ≡ written out to (bytesOf (gatheredFrom tags lengths values i from))
+  pub field-written : {written-to : Bytes} → written-to ≡ putAt out to (head (getD tags i 0) (length v) ++ v)
+      → putAt written-to (to + 3 + n) (bytesOf rest) ≡ putAt out to (bytesOf (gatheredFrom tags lengths values i from))
   field-written {written-to} e =
-      ap (λ (k : ℕ). written written-to (to + 3 + k) (bytesOf rest)) (sym value-length)
+      ap (λ (k : ℕ). putAt written-to (to + 3 + k) (bytesOf rest)) (sym value-length)
       ∙ rest-written (getD tags i 0) v rest next out to (left .fits) written-to e
 
 -- no tag is left, and so no byte
@@ -135,6 +135,6 @@ no-bytes [] (x ∷ s) = refl
 no-bytes (n ∷ ns) s = refl
 
 pub all-written : (tags : Bytes) (lengths : List ℕ) (values : Bytes) (i from : ℕ) → length tags ≤ i → (out : Bytes) (to : ℕ)
-    → written out to (bytesOf (gatheredFrom tags lengths values i from)) ≡ out
+    → putAt out to (bytesOf (gatheredFrom tags lengths values i from)) ≡ out
 all-written tags lengths values i from h out to =
-    rw (drop-of-length-le tags h, no-bytes (drop i lengths) (drop from values)) (written-nothing out to)
+    rw (drop-of-length-le tags h, no-bytes (drop i lengths) (drop from values)) (put-at-nothing out to)

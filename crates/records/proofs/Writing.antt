@@ -15,8 +15,8 @@ use Rattle.model.specs.declared.Kind.{Kind}
 use Rattle.laws_records.specs.Runs.{Whole}
 use Rattle.laws_records.specs.Faults.{fault-whole, fault-length}
 use Rattle.laws_records.specs.Emits.{emit-fits, emit-short}
-use Rattle.records.specs.Answers.{bodyLength, written, head}
-use Rattle.records.proofs.Written.{written-append}
+use Rattle.records.specs.Answers.{bodyLength, putAt, head}
+use Rattle.records.proofs.Written.{put-at-append}
 use Rattle.records.proofs.Bodies.{gathered-body}
 
 writing-refused : (f : ℕ) (r : Rec) (out : Bytes) → (f ≡ 0 → ⊥) → unchanged f out ≡ writing f r out
@@ -24,7 +24,7 @@ writing-refused zero r out n = absurd (n refl)
 writing-refused (suc f) r out n = refl
 
 -- what is written at the start
-written-start : (out s : Bytes) → written out 0 s ≡ s ++ drop (length s) out
+written-start : (out s : Bytes) → putAt out 0 s ≡ s ++ drop (length s) out
 written-start out s = rw zero-add
 
 -- a reply and a buffer
@@ -77,13 +77,13 @@ module _ (kind : Kind) (tags : Bytes) (lengths : List ℕ) (values : Bytes) {f :
         write-short h = both answer (sym (emitted ∙ emit-short bytes out (omega (arith, size))))
 
         module _ (fits : 3 + len ≤ length out) {number : ℕ} (en : number ≡ kindNumber kind) {headed whole : Bytes}
-            (eh : headed ≡ written out 0 (head number len)) (ew : whole ≡ written headed 3 (bytesOf run)) where
+            (eh : headed ≡ putAt out 0 (head number len)) (ew : whole ≡ putAt headed 3 (bytesOf run)) where
           record-written : whole ≡ bytes ++ drop (length bytes) out
           unfolding recordBytes
           record-written =
               let s : head number len ++ bytesOf run ≡ bytes = rw (en, body-is) in
               let k : 0 + length (head number len) ≤ length out = omega arith in
-              ew ∙ rw eh (written-append out 0 (head number len) k (bytesOf run)) ∙ ap (written out 0) s ∙ written-start out bytes
+              ew ∙ rw eh (put-at-append out 0 (head number len) k (bytesOf run)) ∙ ap (putAt out 0) s ∙ written-start out bytes
 
           pub write-right : (accepted ((3 + len) ∷ []) ≡ answer .reply) × (whole ≡ answer .buffer)
           write-right =

@@ -1,4 +1,4 @@
--- What Read and Write answer with: 01's number, and the values that come with it. What is written, and how long it is.
+-- What Read answers by what was read. What Write writes, and how long it is.
 use mathlib.Core.List.{List, [], _∷_, _++_}
 use mathlib.Core.Bool.{Bool, true, false}
 use Prim.Native.Nat.{ℕ, _+_}
@@ -7,13 +7,6 @@ use Rattle.model.specs.Number.{Bytes, bytes}
 use Rattle.model.specs.Record.{Got, onGot}
 use Rattle.model.specs.Shape.{Source, logged, stored}
 use Rattle.model.specs.Reply.{Reply, accepted, refused}
-use Rattle.records.specs.declared.Answer.{Answer}
-use Rattle.records.specs.declared.Answer.the-variants.{Used, Refused}
-
--- Read: the bytes used. Write: the bytes written
-abbrev pub replied : Answer → Reply
-replied (Used n) = accepted (n ∷ [])
-replied (Refused n) = refused n
 
 -- what is read, as a reply
 abbrev pub gotReply : Got → Reply
@@ -30,8 +23,8 @@ bodyLength [] = 0
 bodyLength (n ∷ ns) = 3 + n + bodyLength ns
 
 -- a buffer with some bytes written at a place
-abbrev pub written : Bytes → ℕ → Bytes → Bytes
-written out at s = take at out ++ s ++ drop (at + length s) out
+abbrev pub putAt : Bytes → ℕ → Bytes → Bytes
+putAt out at s = take at out ++ s ++ drop (at + length s) out
 
 -- what a record and a field begin with: a byte, and a length of two bytes
 abbrev pub head : ℕ → ℕ → Bytes

@@ -1,9 +1,10 @@
 // Records: Read and Write.
 use fields::Cursor;
 use model::Kind;
-use shape_faults::PAST_THE_END;
-use shape_faults::TOO_SHORT;
-use shape_faults::UNKNOWN_KIND;
+use model::answers::Answer;
+use model::refusals::PAST_THE_END;
+use model::refusals::TOO_SHORT;
+use model::refusals::UNKNOWN_KIND;
 use shape_faults::faults;
 use shape_faults::given_faults;
 use shape_faults::no_key;
@@ -22,13 +23,8 @@ ghost use Rattle.model.specs.Shape.{logged, fault};
 ghost use Rattle.model.specs.Record.{read as readFrom, readOf, gathered, writeOf};
 ghost use Rattle.laws_records.specs.Runs.{Whole};
 ghost use Rattle.shapes.specs.Table.{table, kindBase};
-ghost use Rattle.records.specs.Answers.{replied, gotReply, sourceOf, bodyLength, written, head};
-
-// Bytes used or written, or a refusal's number.
-pub enum Answer {
-    Used(usize),
-    Refused(u8),
-}
+ghost use Rattle.model.specs.Answers.{replied};
+ghost use Rattle.records.specs.Answers.{gotReply, sourceOf, bodyLength, putAt, head};
 
 // Where a record's rows begin in the table: as it stands in the log, or in an image.
 fn base_from(kind: u8, in_image: bool) -> usize
@@ -73,7 +69,7 @@ pub fn read(s: &[u8]) -> Answer
 }
 
 // A kind's number.
-pub fn number_of(kind: Kind) -> u8
+pub fn kind_number(kind: Kind) -> u8
     ensures { λ r. ⌜ r ≡ kindNumber kind ⌝ }
 {
     match kind {
@@ -110,7 +106,7 @@ fn fields_fault(kind: Kind, tags: &[u8], lengths: &[u16], values: &[u8]) -> u8
     ensures { λ r. ⌜ r ≡ fault logged kind (gathered (now (tags .entry)) (now (lengths .entry)) (now (values .entry))) ⌝ }
 {
     let rows = all_rows();
-    given_faults(&rows, base_of(number_of(kind)), tags, lengths, values)
+    given_faults(&rows, base_of(kind_number(kind)), tags, lengths, values)
 }
 
 // How long the bytes of some fields are.
@@ -130,7 +126,7 @@ fn body_length(lengths: &[u16]) -> usize
 // Writes what a record and a field begin with: a byte, and a length of two bytes.
 pub fn put_head(out: &mut [u8], at: usize, first: u8, len: usize)
     requires { ⌜ at + 3 ≤ length (now out) ⌝ }
-    ensures { λ _. ⌜ now (out .exit) ≡ written (now (out .entry)) at (head first len) ⌝ }
+    ensures { λ _. ⌜ now (out .exit) ≡ putAt (now (out .entry)) at (head first len) ⌝ }
 {
     out[at] = first;
     wire::put(out, at + 1, 2, len as u64);
@@ -139,7 +135,7 @@ pub fn put_head(out: &mut [u8], at: usize, first: u8, len: usize)
 // Writes a field: its tag, its length and its value.
 pub fn put_field(out: &mut [u8], at: usize, tag: u8, v: &[u8])
     requires { ⌜ at + 3 + length (now v) ≤ length (now out) ⌝ }
-    ensures { λ _. ⌜ now (out .exit) ≡ written (now (out .entry)) at (head tag (length (now (v .entry))) ++ now (v .entry)) ⌝ }
+    ensures { λ _. ⌜ now (out .exit) ≡ putAt (now (out .entry)) at (head tag (length (now (v .entry))) ++ now (v .entry)) ⌝ }
 {
     put_head(out, at, tag, v.len());
     wire::copy(out, at + 3, v);
@@ -149,7 +145,7 @@ pub fn put_field(out: &mut [u8], at: usize, tag: u8, v: &[u8])
 fn put_fields(out: &mut [u8], at: usize, tags: &[u8], lengths: &[u16], values: &[u8])
     requires { ⌜ Whole (gathered (now tags) (now lengths) (now values)) ⌝ }
     requires { ⌜ at + length (bytesOf (gathered (now tags) (now lengths) (now values))) ≤ length (now out) ⌝ }
-    ensures { λ _. ⌜ now (out .exit) ≡ written (now (out .entry)) at (bytesOf (gathered (now (tags .entry)) (now (lengths .entry)) (now (values .entry)))) ⌝ }
+    ensures { λ _. ⌜ now (out .exit) ≡ putAt (now (out .entry)) at (bytesOf (gathered (now (tags .entry)) (now (lengths .entry)) (now (values .entry)))) ⌝ }
 {
     let mut to = at;
     let mut start = 0;
@@ -178,7 +174,7 @@ pub fn write(kind: Kind, tags: &[u8], lengths: &[u16], values: &[u8], out: &mut 
     if out.len() < size {
         return Answer::Refused(TOO_SHORT);
     }
-    put_head(out, 0, number_of(kind), len);
+    put_head(out, 0, kind_number(kind), len);
     put_fields(out, 3, tags, lengths, values);
     Answer::Used(size)
 }

@@ -23,11 +23,10 @@ use Rattle.laws_image.specs.Tests.{capacity-least}
 use Rattle.laws_image.specs.Open.{fresh-fits}
 use Rattle.laws_apply.specs.MovedFits.{fits-holds}
 use Rattle.keys.proofs.Found.{lent-slice, slice-rest}
-use Rattle.judge.specs.Judge.{loggedIn}
-use Rattle.validate.proofs.Verdicts.{it, logged-is}
-use Rattle.apply_work.specs.Work.{Good}
+use Rattle.find.specs.Logged.{loggedIn}
+use Rattle.find.proofs.Logged.{it, logged-is}
+use Rattle.apply_work.specs.Work.{Good, stateIn}
 use Rattle.restore_copy.specs.Rebuild.{Rebuilt}
-use Rattle.apply_work.specs.Work.{stateIn}
 use Rattle.apply_step.specs.Step.{Holding, outcome, StillHolding}
 use Rattle.records.proofs.Replies.{refused-bad}
 use Rattle.restore.specs.Restore.{NextIs, replayed, wholeContents, Whole, RanAs}
@@ -74,13 +73,13 @@ pub record Reached (capacity : ℕ) (input : Bytes) (at : ℕ) (w : Bytes) (s : 
 
 -- the state of no records
 abbrev freshState : State
-freshState = record { room = record { mid = 0; used = 0 }; epoch = span 8 - 1; kraft = 0 }
+freshState = record { bounds = record { mid = 0; used = 0 }; epoch = span 8 - 1; kraft = 0 }
 
 fresh-state : (w : Bytes) → stateIn w freshState ≡ fresh
 unfolding itemsFrom records
 fresh-state w = refl
 
-fresh-good : (w : Bytes) → Good w (freshState .room)
+fresh-good : (w : Bytes) → Good w (freshState .bounds)
 unfolding itemsFrom records isWhole
 fresh-good w = record { order = omega arith; fits = omega arith; reals = refl; groups = refl; keeps = tt }
 
@@ -188,10 +187,10 @@ module _ (capacity : ℕ) (input w : Bytes) (r : Ran) (ran : RanAs capacity inpu
   ran-is : (o : Ran) → r ≡ o → RanAs capacity input w o
   ran-is o q = subst (RanAs capacity input w) q ran
 
-  pub done-lays : {s : State} → r ≡ Done s → Good w (s .room) × (headSize + s .room .used ≤ capacity)
+  pub done-lays : {s : State} → r ≡ Done s → Good w (s .bounds) × (headSize + s .bounds .used ≤ capacity)
   done-lays {s} q = let h = ran-is (Done s) q .0 in (h .good, h .fits)
 
-  pub unread-lays : {n at : ℕ} {s : State} → r ≡ RanUnread n at s → Good w (s .room) × (headSize + s .room .used ≤ capacity)
+  pub unread-lays : {n at : ℕ} {s : State} → r ≡ RanUnread n at s → Good w (s .bounds) × (headSize + s .bounds .used ≤ capacity)
   unread-lays {n} {at} {s} q = let h = ran-is (RanUnread n at s) q .0 in (h .good, h .fits)
 
   module _ {n at : ℕ} (q : r ≡ RanRefused n at) where

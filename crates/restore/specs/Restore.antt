@@ -18,8 +18,6 @@ use Rattle.restore.specs.declared.Next.{Next}
 use Rattle.restore.specs.declared.Next.the-variants.{Moved, Unread, Refused}
 use Rattle.restore.specs.declared.Ran.{Ran}
 use Rattle.restore.specs.declared.Ran.the-variants.{Done, Unread as RanUnread, Refused as RanRefused}
-use Rattle.restore.specs.declared.Restored.{Restored}
-use Rattle.restore.specs.declared.Restored.the-variants.{Done as AllDone, Refused as NotDone, Stopped}
 
 -- the first record of an input
 abbrev pub NextIs : Bytes → State → ℕ → Bytes → Bytes → Next → Type 0
@@ -44,8 +42,3 @@ RanAs capacity input w (Done s) = Holding w s capacity × (replayed capacity inp
 RanAs capacity input w (RanUnread n at s) = Holding w s capacity × (replayed capacity input ≡ stopped n at (stateIn w s))
 RanAs capacity input w (RanRefused n at) =
     (at ≤ length input) × Whole capacity (take at input) × (replayed capacity input ≡ stopped n at (wholeContents capacity (take at input)))
-
-abbrev pub restored : Restored → Reply
-restored AllDone = accepted []
-restored (NotDone n) = refused n
-restored (Stopped n at) = record { number = n; values = at ∷ [] }

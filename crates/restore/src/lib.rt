@@ -1,13 +1,14 @@
 // Restore: the image of some records, from nothing.
 use apply_step::step;
-use apply_work::Room;
+use apply_work::Bounds;
 use apply_work::State;
 use apply_work::Tried;
 use apply_work::lay;
 use header::NO_EPOCH;
-use header::NO_IMAGE;
 use header::is_capacity;
-use records::Answer;
+use model::answers::Answer;
+use model::answers::Restored;
+use model::refusals::NO_IMAGE;
 use records::read;
 use restore_copy::rebuild;
 ghost use mathlib.Core.Path.{_≡_};
@@ -18,7 +19,8 @@ ghost use Rattle.model.specs.Image.{isCapacity, imageOf};
 ghost use Rattle.model.specs.Snapshot.{restoreOf};
 ghost use Rattle.apply_drafts.specs.Drafts.{draftRoom};
 ghost use Rattle.apply_step.specs.Step.{workRoom, Holding};
-ghost use Rattle.restore.specs.Restore.{NextIs, RanAs, Whole, wholeContents, restored};
+ghost use Rattle.model.specs.Answers.{restoreReply};
+ghost use Rattle.restore.specs.Restore.{NextIs, RanAs, Whole, wholeContents};
 
 // What the first of some records comes to: the state after it and how many bytes it has; Read's refusal, which leaves the work array as it was; or
 // Apply's.
@@ -63,7 +65,7 @@ fn run(w: &mut [u8], a: &mut [u8], b: &mut [u8], capacity: usize, input: &[u8]) 
     ensures { λ r. ⌜ RanAs capacity (now (input .entry)) (now (w .exit)) r ⌝ }
 {
     let mut state = State {
-        room: Room { mid: 0, used: 0 },
+        bounds: Bounds { mid: 0, used: 0 },
         epoch: NO_EPOCH,
         kraft: 0,
     };
@@ -92,35 +94,28 @@ fn lay_whole(image: &mut [u8], w: &mut [u8], a: &mut [u8], b: &mut [u8], input: 
 {
     match run(w, a, b, image.len(), input) {
         Ran::Done(s) => {
-            lay(image, w, s.room, s.epoch, s.kraft);
+            lay(image, w, s.bounds, s.epoch, s.kraft);
         }
         Ran::Unread(number, at, s) => {}
         Ran::Refused(number, at) => {}
     }
 }
 
-// Done, a refusal, or a record's refusal with the place of its first byte.
-pub enum Restored {
-    Done,
-    Refused(u8),
-    Stopped(u8, usize),
-}
-
 // Restore, record by record.
 fn restore_each(image: &mut [u8], w: &mut [u8], input: &[u8]) -> Restored
     requires { ⌜ (isCapacity (length (now image)) ≡ true) × (length (now w) ≡ workRoom) ⌝ }
-    ensures { λ r. ⌜ restored r ≡ restoreOf (now (input .entry)) (now (image .entry)) .reply ⌝ }
+    ensures { λ r. ⌜ restoreReply r ≡ restoreOf (now (input .entry)) (now (image .entry)) .reply ⌝ }
     ensures { λ _. ⌜ now (image .exit) ≡ restoreOf (now (input .entry)) (now (image .entry)) .buffer ⌝ }
 {
     let mut a = [0; 40960];
     let mut b = [0; 40960];
     match run(w, &mut a, &mut b, image.len(), input) {
         Ran::Done(s) => {
-            lay(image, w, s.room, s.epoch, s.kraft);
+            lay(image, w, s.bounds, s.epoch, s.kraft);
             Restored::Done
         }
         Ran::Unread(number, at, s) => {
-            lay(image, w, s.room, s.epoch, s.kraft);
+            lay(image, w, s.bounds, s.epoch, s.kraft);
             Restored::Stopped(number, at)
         }
         Ran::Refused(number, at) => {
@@ -133,7 +128,7 @@ fn restore_each(image: &mut [u8], w: &mut [u8], input: &[u8]) -> Restored
 // Makes a buffer the image of some records, whatever it held. A record's refusal leaves the image of those before it; a capacity's changes nothing. What is
 // the snapshot of an image that a restore leaves as it is, as most are, is copied.
 pub fn restore(image: &mut [u8], input: &[u8]) -> Restored
-    ensures { λ r. ⌜ restored r ≡ restoreOf (now (input .entry)) (now (image .entry)) .reply ⌝ }
+    ensures { λ r. ⌜ restoreReply r ≡ restoreOf (now (input .entry)) (now (image .entry)) .reply ⌝ }
     ensures { λ _. ⌜ now (image .exit) ≡ restoreOf (now (input .entry)) (now (image .entry)) .buffer ⌝ }
 {
     if !is_capacity(image.len()) {

@@ -7,7 +7,7 @@ use header::NO_EPOCH;
 use header::epoch_in;
 use header::used_in;
 use image_entries::tail_start;
-use records::Answer;
+use model::answers::Answer;
 use restore_settled::has_no_level;
 use restore_settled::is_settled;
 ghost use mathlib.Core.Path.{_≡_};
@@ -26,10 +26,10 @@ fn is_steady(image: &[u8]) -> bool
     ensures { λ r. ⌜ Steady (now (image .entry)) r ⌝ }
 {
     let used = used_in(image);
-    if tail_start(&image[64..used]) != used - HEAD_SIZE {
+    if tail_start(&image[HEAD_SIZE..used]) != used - HEAD_SIZE {
         return false;
     }
-    if !is_settled(&image[64..used]) {
+    if !is_settled(&image[HEAD_SIZE..used]) {
         return false;
     }
     let epoch = epoch_in(image);
@@ -39,7 +39,7 @@ fn is_steady(image: &[u8]) -> bool
     if epoch != NO_EPOCH {
         return false;
     }
-    has_no_level(&image[64..used])
+    has_no_level(&image[HEAD_SIZE..used])
 }
 
 // Whether some bytes are the snapshot of an image that a restore leaves as it is. `w` is for the snapshot.

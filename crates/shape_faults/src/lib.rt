@@ -3,6 +3,8 @@ use fields::Cursor;
 use fields::Found;
 use fields::Step;
 use model::Order;
+use model::refusals::OVER_A_LIMIT;
+use model::refusals::WRONG;
 use reader::field;
 use shapes::form_in;
 use shapes::many_in;
@@ -20,17 +22,6 @@ ghost use Rattle.model.specs.Record.{gathered};
 ghost use Rattle.shapes.specs.Table.{table, rowCount, formIn, sizeIn, formOf, presenceOf, rowsFrom};
 ghost use Rattle.fields.specs.Fields.{fieldsFrom, Inside};
 ghost use Rattle.shape_faults.specs.Walk.{IsBase, IsRow, priorKey, PriorIn, noKey, begun, priorFor, countFor, beforeIn, presenceAt, keyOf, passed, checkAt, limitFault, listFault, tagFault, endFault, fieldFault};
-
-// The refusals of Read and Write, by 01's numbers.
-pub const PAST_THE_END: u8 = 2;
-
-pub const UNKNOWN_KIND: u8 = 3;
-
-pub const WRONG: u8 = 4;
-
-pub const OVER_A_LIMIT: u8 = 5;
-
-pub const TOO_SHORT: u8 = 19;
 
 // Two of the wrong fields by name: a string that is no UTF-8, and a map's key that is not above the one before.
 const NO_TEXT: u8 = WRONG;

@@ -73,14 +73,14 @@ howOften required = 0
 howOften optional = 1
 howOften (upTo n) = n
 
-abbrev pub packed : ℕ → ℕ → ℕ → ℕ → ℕ
-packed form size prior many = form * 2 ^ 28 + size * 65536 + prior * 256 + many
+abbrev pub packedRow : ℕ → ℕ → ℕ → ℕ → ℕ
+packedRow form size prior many = form * 2 ^ 28 + size * 65536 + prior * 256 + many
 
 -- rows from a tag on, after the greatest required tag `prior`
 unfoldable pub packRows : ℕ → ℕ → List Row → List ℕ
 packRows prior tag [] = []
 packRows prior tag (r ∷ rows) =
-    packed (formCode (r .form)) (formSize (r .form)) prior (howOften (r .presence)) ∷
+    packedRow (formCode (r .form)) (formSize (r .form)) prior (howOften (r .presence)) ∷
     packRows (cond (isRequired (r .presence)) tag prior) (suc tag) rows
 
 unfoldable pub lastRequired : ℕ → ℕ → List Row → ℕ
@@ -88,7 +88,7 @@ lastRequired prior tag [] = prior
 lastRequired prior tag (r ∷ rows) = lastRequired (cond (isRequired (r .presence)) tag prior) (suc tag) rows
 
 unfoldable pub packShape : List Row → List ℕ
-packShape rows = packed 0 (length rows) (lastRequired 0 1 rows) 0 ∷ packRows 0 1 rows
+packShape rows = packedRow 0 (length rows) (lastRequired 0 1 rows) 0 ∷ packRows 0 1 rows
 
 unfoldable pub shapes : List Shape
 shapes =

@@ -11,24 +11,24 @@ use Rattle.model.specs.Kind.{kindNumber}
 use Rattle.model.specs.Record.{recordBytes}
 use Rattle.model.specs.Snapshot.{epochRecords, kraftRecords}
 use Rattle.laws.specs.Numbers.{length-bytes}
-use Rattle.records.specs.Answers.{written, head}
-use Rattle.records.proofs.Written.{written-nothing, written-append}
-use Rattle.snapshot.specs.Shown.{numberBytes, epochBytes, kraftBytes}
+use Rattle.records.specs.Answers.{putAt, head}
+use Rattle.records.proofs.Written.{put-at-nothing, put-at-append}
+use Rattle.snapshot.specs.Returned.{numberBytes, epochBytes, kraftBytes}
 
 -- 1. One number
 
-pub number-written : (out : Bytes) (at kind width n : ℕ) → at + 6 + width ≤ length out → {a b c : Bytes} → a ≡ written out at (head kind (3 + width))
-    → b ≡ written a (at + 3) (head 1 width) → c ≡ take (at + 6) b ++ bytes width n ++ drop (at + 6 + width) b → c ≡ written out at (numberBytes kind width n)
+pub number-written : (out : Bytes) (at kind width n : ℕ) → at + 6 + width ≤ length out → {a b c : Bytes} → a ≡ putAt out at (head kind (3 + width))
+    → b ≡ putAt a (at + 3) (head 1 width) → c ≡ take (at + 6) b ++ bytes width n ++ drop (at + 6 + width) b → c ≡ putAt out at (numberBytes kind width n)
 number-written out at kind width n fits {a} {b} {c} ea eb ec =
-    let first : b ≡ written out at (head kind (3 + width) ++ head 1 width) =
-    eb ∙ rw ea (written-append out at (head kind (3 + width)) (omega arith) (head 1 width)) in
+    let first : b ≡ putAt out at (head kind (3 + width) ++ head 1 width) =
+    eb ∙ rw ea (put-at-append out at (head kind (3 + width)) (omega arith) (head 1 width)) in
     let six : at + 6 ≡ at + length (head kind (3 + width) ++ head 1 width) = omega arith in
     ec
     ∙ ap (λ k. take (at + 6) b ++ bytes width n ++ drop (at + 6 + k) b) (sym (length-bytes width n))
-    ∙ ap (λ x. written x (at + 6) (bytes width n)) first
-    ∙ ap (λ x. written (written out at (head kind (3 + width) ++ head 1 width)) x (bytes width n)) six
-    ∙ written-append out at (head kind (3 + width) ++ head 1 width) (omega arith) (bytes width n)
-    ∙ ap (written out at) (append-assoc (head kind (3 + width)) (head 1 width) (bytes width n))
+    ∙ ap (λ x. putAt x (at + 6) (bytes width n)) first
+    ∙ ap (λ x. putAt (putAt out at (head kind (3 + width) ++ head 1 width)) x (bytes width n)) six
+    ∙ put-at-append out at (head kind (3 + width) ++ head 1 width) (omega arith) (bytes width n)
+    ∙ ap (putAt out at) (append-assoc (head kind (3 + width)) (head 1 width) (bytes width n))
 
 pub length-number : (kind width n : ℕ) → length (numberBytes kind width n) ≡ 6 + width
 length-number kind width n = omega (arith, length-bytes width n)
@@ -55,9 +55,9 @@ kraft-none v h = rw h refl
 
 -- what is written where there is a record, and where there is none
 module _ {s : Bytes} (out : Bytes) (at : ℕ) where
-  pub put-some : (kind width n : ℕ) → s ≡ numberBytes kind width n → {r : ℕ} {w : Bytes} → (r ≡ at + 6 + width) × (w ≡ written out at (numberBytes kind width n))
-      → (r ≡ at + length s) × (w ≡ written out at s)
+  pub put-some : (kind width n : ℕ) → s ≡ numberBytes kind width n → {r : ℕ} {w : Bytes} → (r ≡ at + 6 + width) × (w ≡ putAt out at (numberBytes kind width n))
+      → (r ≡ at + length s) × (w ≡ putAt out at s)
   put-some kind width n e h = rw e (omega (arith, h .0, length-bytes width n), h .1)
 
-  pub put-none : s ≡ [] → (at ≡ at + length s) × (out ≡ written out at s)
-  put-none e = rw e (omega arith, sym (written-nothing out at))
+  pub put-none : s ≡ [] → (at ≡ at + length s) × (out ≡ putAt out at s)
+  put-none e = rw e (omega arith, sym (put-at-nothing out at))

@@ -1,40 +1,39 @@
 // Snapshot: what an image holds, as records in the order of their keys.
 use entries::Cursor;
 use entries::Step;
-use find::put_shown;
+use find::put_returned;
 use find::reals_end;
-use find::shown_size;
-use header::NO_IMAGE;
+use find::returned_size;
+use header::HEAD_SIZE;
 use header::epoch_in;
 use header::kraft_in;
 use image::is_image;
-use records::Answer;
+use model::answers::Answer;
+use model::kinds::FEATURES_EPOCH;
+use model::kinds::KRAFT_VERSION;
+use model::refusals::NO_IMAGE;
+use model::refusals::TOO_SHORT;
 use records::put_head;
-use shape_faults::TOO_SHORT;
 ghost use mathlib.Core.Path.{_≡_};
 ghost use mathlib.Core.Bool.{true};
 ghost use Prim.Native.Nat.{_+_, _≤_};
 ghost use lib.ListN.{length};
 ghost use Rattle.model.specs.Image.{isImage, contentsOf};
 ghost use Rattle.model.specs.Snapshot.{snapshot as snapshotRecords, emit, snapshotOf};
-ghost use Rattle.records.specs.Answers.{replied, written};
+ghost use Rattle.model.specs.Answers.{replied};
+ghost use Rattle.records.specs.Answers.{putAt};
 ghost use Rattle.entries.specs.Entries.{recordsIn, Entries};
 ghost use Rattle.find.specs.Found.{AllKept};
-ghost use Rattle.snapshot.specs.Shown.{shownIn, numberBytes, epochBytes, kraftBytes};
-
-// The records after the entries': the features epoch where it is not negative, the kraft version where it is not 0.
-const FEATURES_EPOCH: u8 = 13;
-
-const KRAFT_VERSION: u8 = 10;
+ghost use Rattle.snapshot.specs.Returned.{returnedIn, numberBytes, epochBytes, kraftBytes};
 
 const NEGATIVE: u64 = 0x8000_0000_0000_0000;
 
 const NO_VERSION: u64 = 0;
 
 // How long the records of some entries are.
-fn shown_length(s: &[u8]) -> usize
+fn returned_length(s: &[u8]) -> usize
     requires { ⌜ Entries (now s) × AllKept (recordsIn (now s)) ⌝ }
-    ensures { λ r. ⌜ (r ≡ length (shownIn (now (s .entry)))) × (r ≤ length (now (s .entry))) ⌝ }
+    ensures { λ r. ⌜ (r ≡ length (returnedIn (now (s .entry)))) × (r ≤ length (now (s .entry))) ⌝ }
 {
     let mut c = Cursor { at: 0 };
     let mut n = 0;
@@ -42,7 +41,7 @@ fn shown_length(s: &[u8]) -> usize
         match c.next(s) {
             Step::Entry(start, end, next) => {
                 c = next;
-                n = n + shown_size(&s[start..end]);
+                n = n + returned_size(&s[start..end]);
             }
             Step::Torn => {
                 return n;
@@ -56,8 +55,8 @@ fn shown_length(s: &[u8]) -> usize
 
 // Writes the records of some entries to the start of an output. How many bytes they are.
 fn put_entries(out: &mut [u8], s: &[u8]) -> usize
-    requires { ⌜ Entries (now s) × AllKept (recordsIn (now s)) × (length (shownIn (now s)) ≤ length (now out)) ⌝ }
-    ensures { λ r. ⌜ (r ≡ length (shownIn (now (s .entry)))) × (now (out .exit) ≡ written (now (out .entry)) 0 (shownIn (now (s .entry)))) ⌝ }
+    requires { ⌜ Entries (now s) × AllKept (recordsIn (now s)) × (length (returnedIn (now s)) ≤ length (now out)) ⌝ }
+    ensures { λ r. ⌜ (r ≡ length (returnedIn (now (s .entry)))) × (now (out .exit) ≡ putAt (now (out .entry)) 0 (returnedIn (now (s .entry)))) ⌝ }
 {
     let mut c = Cursor { at: 0 };
     let mut n = 0;
@@ -65,8 +64,8 @@ fn put_entries(out: &mut [u8], s: &[u8]) -> usize
         match c.next(s) {
             Step::Entry(start, end, next) => {
                 c = next;
-                put_shown(out, n, &s[start..end]);
-                n = n + shown_size(&s[start..end]);
+                put_returned(out, n, &s[start..end]);
+                n = n + returned_size(&s[start..end]);
             }
             Step::Torn => {
                 return n;
@@ -81,7 +80,7 @@ fn put_entries(out: &mut [u8], s: &[u8]) -> usize
 // Writes a record of a kind whose one field is a number. Where it ends.
 fn put_number(out: &mut [u8], at: usize, kind: u8, width: usize, n: u64) -> usize
     requires { ⌜ (width ≤ 8) × (at + 6 + width ≤ length (now out)) ⌝ }
-    ensures { λ r. ⌜ (r ≡ at + 6 + width) × (now (out .exit) ≡ written (now (out .entry)) at (numberBytes kind width n)) ⌝ }
+    ensures { λ r. ⌜ (r ≡ at + 6 + width) × (now (out .exit) ≡ putAt (now (out .entry)) at (numberBytes kind width n)) ⌝ }
 {
     put_head(out, at, kind, 3 + width);
     put_head(out, at + 3, 1, width);
@@ -112,7 +111,7 @@ fn kraft_length(kraft: u64) -> usize
 // Writes the epoch's record, where there is one. Where it ends.
 fn put_epoch(out: &mut [u8], at: usize, epoch: u64) -> usize
     requires { ⌜ at + length (epochBytes epoch) ≤ length (now out) ⌝ }
-    ensures { λ r. ⌜ (r ≡ at + length (epochBytes epoch)) × (now (out .exit) ≡ written (now (out .entry)) at (epochBytes epoch)) ⌝ }
+    ensures { λ r. ⌜ (r ≡ at + length (epochBytes epoch)) × (now (out .exit) ≡ putAt (now (out .entry)) at (epochBytes epoch)) ⌝ }
 {
     if epoch < NEGATIVE {
         return put_number(out, at, FEATURES_EPOCH, 8, epoch);
@@ -123,7 +122,7 @@ fn put_epoch(out: &mut [u8], at: usize, epoch: u64) -> usize
 // Writes the kraft version's record, where there is one. Where it ends.
 fn put_kraft(out: &mut [u8], at: usize, kraft: u64) -> usize
     requires { ⌜ at + length (kraftBytes kraft) ≤ length (now out) ⌝ }
-    ensures { λ r. ⌜ (r ≡ at + length (kraftBytes kraft)) × (now (out .exit) ≡ written (now (out .entry)) at (kraftBytes kraft)) ⌝ }
+    ensures { λ r. ⌜ (r ≡ at + length (kraftBytes kraft)) × (now (out .exit) ≡ putAt (now (out .entry)) at (kraftBytes kraft)) ⌝ }
 {
     if kraft == NO_VERSION {
         return at;
@@ -140,11 +139,11 @@ fn emit_records(image: &[u8], out: &mut [u8]) -> Answer
     let end = reals_end(image);
     let epoch = epoch_in(image);
     let kraft = kraft_in(image);
-    let n = shown_length(&image[64..end]) + epoch_length(epoch) + kraft_length(kraft);
+    let n = returned_length(&image[HEAD_SIZE..end]) + epoch_length(epoch) + kraft_length(kraft);
     if out.len() < n {
         return Answer::Refused(TOO_SHORT);
     }
-    let entries = put_entries(out, &image[64..end]);
+    let entries = put_entries(out, &image[HEAD_SIZE..end]);
     let all = put_epoch(out, entries, epoch);
     Answer::Used(put_kraft(out, all, kraft))
 }

@@ -11,20 +11,20 @@ use Rattle.model.specs.Number.{Bytes}
 use Rattle.model.specs.Reply.{Reply, accepted, refused}
 use Rattle.model.specs.Snapshot.{snapshotOf, restoreOf}
 use Rattle.model.specs.History.{verdict, cutImage}
-use Rattle.header.specs.Header.{numbered}
+use Rattle.model.specs.Answers.{numberReply}
 use Rattle.snapshot.proofs.Shots.{refusal-counts}
 
 -- a record, by what Validate says of it
-module _ {v : ℕ} {r : Reply} (e : numbered v ≡ r) where
+module _ {v : ℕ} {r : Reply} (e : numberReply v ≡ r) where
   pub refused-verdict : (a : Reply) → (v ≡ 0 → ⊥)
-      → verdict (numbered v) (cond (eqb v 0) (some (numbered 0)) none) ≡ verdict r (cond (eqb (r .number) 0) (some a) none)
+      → verdict (numberReply v) (cond (eqb v 0) (some (numberReply 0)) none) ≡ verdict r (cond (eqb (r .number) 0) (some a) none)
   refused-verdict a h = rw (← e, ne-eqb _ _ h) refl
 
   pub refused-image : (b c : Bytes) → (v ≡ 0 → ⊥) → c ≡ cond (eqb (r .number) 0) b c
   refused-image b c h = rw (← e, ne-eqb _ _ h) refl
 
-  pub applied-verdict : {n : ℕ} {a : Reply} → numbered n ≡ a
-      → verdict (numbered v) (cond (eqb v 0) (some (numbered n)) none) ≡ verdict r (cond (eqb (r .number) 0) (some a) none)
+  pub applied-verdict : {n : ℕ} {a : Reply} → numberReply n ≡ a
+      → verdict (numberReply v) (cond (eqb v 0) (some (numberReply n)) none) ≡ verdict r (cond (eqb (r .number) 0) (some a) none)
   applied-verdict f = rw (← e, ← f) refl
 
   pub applied-image : (b c : Bytes) → v ≡ 0 → b ≡ cond (eqb (r .number) 0) b c

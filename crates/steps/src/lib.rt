@@ -1,5 +1,5 @@
 // The steps of a history that move an image, as the theorem has them: a record that is given, and a cut.
-use records::Answer;
+use model::answers::Answer;
 ghost use mathlib.Core.Path.{_≡_};
 ghost use lib.Dec.{eqb};
 ghost use Rattle.model.specs.History.{judged, imageAfter, cutImage};

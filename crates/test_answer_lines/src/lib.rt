@@ -1,5 +1,5 @@
 // What an operation answers, as a line of text: numbers with a space before each, behind the operation's place.
-use records::Answer;
+use model::answers::Answer;
 use wire::wide;
 ghost use mathlib.Core.Path.{_≡_};
 ghost use Rattle.test_answer_lines.specs.Digest.{digestOf};

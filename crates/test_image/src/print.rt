@@ -1,6 +1,6 @@
 // What a line's operation answers, as text: numbers, and bytes in hexadecimal.
-use lookup::Value;
-use records::Answer;
+use model::answers::Answer;
+use model::answers::Value;
 use wire::size;
 use wire::wide;
 

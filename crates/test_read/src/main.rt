@@ -1,6 +1,6 @@
 // Reads records, one to a line in hexadecimal, and writes Read's number for each, and the bytes used where it is 0. Lines that have a '#' are
 // passed over.
-use records::Answer;
+use model::answers::Answer;
 
 fn print_answer(bytes: &[u8]) {
     match records::read(bytes) {

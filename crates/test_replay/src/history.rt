@@ -1,6 +1,6 @@
 // What changes an image: Open, the steps of a history, its cuts, Restore.
-use records::Answer;
-use restore::Restored;
+use model::answers::Answer;
+use model::answers::Restored;
 use test_answer_lines::print_buffer;
 use test_answer_lines::print_next;
 use test_answer_lines::print_no_line;

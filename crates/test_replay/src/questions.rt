@@ -1,6 +1,6 @@
 // What changes no image: Snapshot, the lookups, the listing for a downgrade.
-use lookup::Rated;
 use model::NodeId;
+use model::answers::Rated;
 use test_answer_lines::print_next;
 use test_answer_lines::print_no_line;
 use test_answer_lines::print_written;

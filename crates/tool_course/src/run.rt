@@ -4,13 +4,13 @@ use crate::turns::MOST;
 use crate::turns::fresh;
 use crate::turns::turn;
 use crate::verdicts::say_in_words;
-use shape_faults::PAST_THE_END;
+use model::refusals::PAST_THE_END;
 use tool_arguments::Cuts;
 use tool_source::Source;
 use tool_source::passed;
+use tool_source::print_progress;
 use tool_source::refill;
 use tool_source::start;
-use tool_source::tell_progress;
 use tool_words::say;
 use tool_words::say_number;
 ghost use Prim.Native.Nat.{_-_, _≤_};
@@ -59,9 +59,9 @@ fn left(course: Course) -> u64
 }
 
 // Says how far the reading is, while something can be said.
-fn tell(course: Course, place: u64) {
+fn say_progress(course: Course, place: u64) {
     if course.written {
-        tell_progress(course.records, place);
+        print_progress(course.records, place);
     }
 }
 
@@ -82,7 +82,7 @@ fn run_in(fd: i32, window: &mut [u8], plain: &mut [u8], other: &mut [u8], cuts: 
         let next = at + n;
         course = turn(plain, other, source.place, &window[at..next], cuts, course);
         source = passed(source, n);
-        tell(course, source.place);
+        say_progress(course, source.place);
     }
     course
 }

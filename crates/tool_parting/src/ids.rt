@@ -3,13 +3,12 @@ use crate::snapshots::end_of;
 use crate::snapshots::more_by_one;
 use crate::snapshots::take_snapshot;
 use keys::value_at;
-use records::Answer;
+use model::answers::Answer;
+use model::kinds::TOPIC;
 use tool_words::say;
 use tool_words::say_field;
 ghost use Prim.Native.Nat.{_≤_};
 ghost use lib.ListN.{length};
-
-const TOPIC: u8 = 1;
 
 // The topic that an id names, into `out`. How many bytes it has, 0 where there is none.
 fn named_by(image: &[u8], id: &[u8; 16], out: &mut [u8]) -> usize

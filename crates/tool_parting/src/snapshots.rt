@@ -1,5 +1,5 @@
 // The records of an image's snapshot, and where two snapshots part.
-use records::Answer;
+use model::answers::Answer;
 use tool_words::names::say_kind;
 use tool_words::say;
 ghost use mathlib.Core.Path.{_≡_};

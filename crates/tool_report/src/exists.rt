@@ -1,9 +1,9 @@
 // What exists in an image: its snapshot read record by record.
 use crate::quotas::say_quota;
 use crate::topics::say_topic;
-use lookup::Rated;
-use lookup::Value;
 use model::NodeId;
+use model::answers::Rated;
+use model::answers::Value;
 use tool_parting::snapshots::end_of;
 use tool_parting::snapshots::more_by_one;
 use tool_parting::snapshots::take_snapshot;
@@ -143,7 +143,7 @@ fn say_weight(image: &[u8], light: usize) -> bool {
     if image.len() < header::HEAD_SIZE {
         return true;
     }
-    let used = header::used_in(image) + 64;
+    let used = header::used_in(image) + header::HEAD_SIZE;
     if used < light {
         return true;
     }

@@ -4,6 +4,7 @@ use access::Node;
 use access::leader_epoch;
 use access::node_id;
 use keys::value_at;
+use model::kinds::PARTITION;
 use tool_parting::snapshots::end_of;
 use tool_words::OF_FOUR;
 use tool_words::OF_TWO;
@@ -12,8 +13,6 @@ use tool_words::say_field;
 use tool_words::say_integer;
 use tool_words::say_of;
 use tool_words::say_signed;
-
-const PARTITION: u8 = 2;
 
 // Whether a record is a partition whose topic is the one of another record.
 fn is_partition_of(rec: &[u8], topic: &[u8]) -> bool {

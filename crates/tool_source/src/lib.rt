@@ -119,7 +119,7 @@ pub fn passed(source: Source, n: usize) -> Source
 }
 
 // Says how far a long file has been read.
-pub fn tell_progress(records: u64, place: u64) {
+pub fn print_progress(records: u64, place: u64) {
     if records % PROGRESS != 0 {
         return;
     }

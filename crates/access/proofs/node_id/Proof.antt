@@ -16,8 +16,8 @@ node-tag-requires c κs = search needs
 returns-2 : tie.Need-returns-2
 returns-2 c = node-none _ _ (c .before .node-tag .ensures) (c .if2 .taken)
 
-number-of-requires : tie.Need-number-of-requires
-number-of-requires c κs = search needs
+field-number-requires : tie.Need-field-number-requires
+field-number-requires c κs = search needs
 
 enum-known-n : tie.Need-enum-known-n
 enum-known-n c = search needs
@@ -29,13 +29,13 @@ returns-3 : tie.Need-returns-3
 returns-3 c =
     let counted = c .before .before .before in
     let asked = counted .before in
-    node-is _ _ (asked .before .node-tag .ensures) (asked .if2 .left) (counted .number-of .ensures .0) (c .before .n .given .1)
+    node-is _ _ (asked .before .node-tag .ensures) (asked .if2 .left) (counted .field-number .ensures .0) (c .before .n .given .1)
 
 returns-4 : tie.Need-returns-4
 returns-4 c =
     let counted = c .before .before in
     let asked = counted .before in
-    node-missing _ _ (asked .before .node-tag .ensures) (asked .if2 .left) (counted .number-of .ensures .0) (c .enum-told .given .1)
+    node-missing _ _ (asked .before .node-tag .ensures) (asked .if2 .left) (counted .field-number .ensures .0) (c .enum-told .given .1)
 
 pub node-id-spec : {M : Type 1} → statement M
 node-id-spec =
@@ -45,7 +45,7 @@ node-id-spec =
     shared-slice-read-node-tag
     node-tag-requires
     returns-2
-    number-of-requires
+    field-number-requires
     enum-known-n
     enum-told
     returns-3

@@ -3,8 +3,8 @@ use borrow.Author.Needs.{needs}
 use mathlib.Core.Path.{sym, ap, _∙_}
 use native.Mathlib.Omega.{arith}
 use Rattle.keys.proofs.Keys.{known-bytes}
-use Rattle.records.specs.Answers.{replied}
-use Rattle.validate.proofs.Verdicts.{record-length, record-logged}
+use Rattle.model.specs.Answers.{replied}
+use Rattle.find.proofs.Logged.{record-length, record-logged}
 use Rattle.apply.proofs.Applying.{no-image, image-is, unread, applied}
 use Rattle.apply.proofs.apply.Statement.{statement}
 use Rattle.apply.proofs.apply.Tie as tie

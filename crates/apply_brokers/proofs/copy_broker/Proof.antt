@@ -5,8 +5,8 @@ use borrow.Author.Tests.{not-true, not-false}
 use Rattle.laws.specs.Numbers.{length-bytes}
 use Rattle.keys.proofs.Keys.{known-bytes}
 use Rattle.image_entries.proofs.Records.{headed}
-use Rattle.judge.proofs.Queries.{broker-query}
-use Rattle.judge.proofs.Epochs.{broker-headed}
+use Rattle.find.proofs.Queries.{broker-query}
+use Rattle.find.proofs.Epochs.{broker-headed}
 use Rattle.apply_brokers.proofs.Plans.{not-stored, other-epoch, entry-fits, copied}
 use Rattle.apply_brokers.proofs.copy_broker.Statement.{statement}
 use Rattle.apply_brokers.proofs.copy_broker.Tie as tie

@@ -24,10 +24,10 @@ same-length-2 : tie.Need-same-length-2
 same-length-2 c = search needs
 
 returns : tie.Need-returns
-returns c = none-stored _ (c .before .before .before .before .before .before .before .before .before .args .w .now) (c .before .before .before .before .before .before .before .before .before .args .room) (c .before .before .before .copy-partition .ensures) (c .if1 .taken) (c .before .before .before .before .before .before .before .before .before .pre .0)
+returns c = none-stored _ (c .before .before .before .before .before .before .before .before .before .args .w .now) (c .before .before .before .before .before .before .before .before .before .args .bounds) (c .before .before .before .copy-partition .ensures) (c .if1 .taken) (c .before .before .before .before .before .before .before .before .before .pre .0)
 
 change-requires : tie.Need-change-requires
-change-requires c κs = (partition-there _ (c .before .before .before .before .before .before .before .before .before .before .args .w .now) (c .before .before .before .before .before .before .before .before .before .before .args .room) (c .before .before .before .before .copy-partition .ensures) (c .before .if1 .left), record { is = c .before .before .before .before .before .before .before .before .before .before .pre .1; kind = c .before .before .before .before .before .before .before .before .before .before .pre .2 }, c .before .before .before .before .copy-partition .ensures .fits, omega (arith, c .before .before .before .before .before .before .before .before .before .before .pre .5, c .before .before .before .before .copy-partition .kept .0))
+change-requires c κs = (partition-there _ (c .before .before .before .before .before .before .before .before .before .before .args .w .now) (c .before .before .before .before .before .before .before .before .before .before .args .bounds) (c .before .before .before .before .copy-partition .ensures) (c .before .if1 .left), record { is = c .before .before .before .before .before .before .before .before .before .before .pre .1; kind = c .before .before .before .before .before .before .before .before .before .before .pre .2 }, c .before .before .before .before .copy-partition .ensures .fits, omega (arith, c .before .before .before .before .before .before .before .before .before .before .pre .5, c .before .before .before .before .copy-partition .kept .0))
 
 same-length-3 : tie.Need-same-length-3
 same-length-3 c = search needs
@@ -36,7 +36,7 @@ same-length-4 : tie.Need-same-length-4
 same-length-4 c = search needs
 
 returns-2 : tie.Need-returns-2
-returns-2 c = none-assigned _ (c .before .before .before .before .before .before .before .before .before .before .before .before .before .before .args .w .now) (c .before .before .before .before .before .before .before .before .before .before .before .before .before .before .args .room) (c .before .before .before .before .before .before .before .before .copy-partition .ensures) (c .before .before .before .before .before .if1 .left) (c .before .before .before .change .ensures) (c .if2 .taken) (c .before .before .before .before .before .before .before .before .before .before .before .before .before .before .pre .0)
+returns-2 c = none-assigned _ (c .before .before .before .before .before .before .before .before .before .before .before .before .before .before .args .w .now) (c .before .before .before .before .before .before .before .before .before .before .before .before .before .before .args .bounds) (c .before .before .before .before .before .before .before .before .copy-partition .ensures) (c .before .before .before .before .before .if1 .left) (c .before .before .before .change .ensures) (c .if2 .taken) (c .before .before .before .before .before .before .before .before .before .before .before .before .before .before .pre .0)
 
 slice-reshare-prefix-put-real : tie.Need-slice-reshare-prefix-put-real
 slice-reshare-prefix-put-real c = search needs
@@ -45,7 +45,7 @@ slice-aggregate-put-real : tie.Need-slice-aggregate-put-real
 slice-aggregate-put-real c = sym (length-take-le _ _ (c .before .before .before .before .before .change .ensures .fits))
 
 put-real-requires : tie.Need-put-real-requires
-put-real-requires c κs = (c .before .before .before .before .before .before .before .before .before .before .before .before .before .before .before .before .pre .0, new-there _ (c .before .before .before .before .before .before .before .before .before .before .before .before .before .before .before .before .args .w .now) (c .before .before .before .before .before .before .before .before .before .before .before .before .before .before .before .before .args .room) (c .before .before .before .before .before .before .before .before .before .before .copy-partition .ensures) (c .before .before .before .before .before .before .before .if1 .left) (c .before .before .before .before .before .change .ensures) (c .before .before .if2 .left) .is, part-kept _ (new-there _ (c .before .before .before .before .before .before .before .before .before .before .before .before .before .before .before .before .args .w .now) (c .before .before .before .before .before .before .before .before .before .before .before .before .before .before .before .before .args .room) (c .before .before .before .before .before .before .before .before .before .before .copy-partition .ensures) (c .before .before .before .before .before .before .before .if1 .left) (c .before .before .before .before .before .change .ensures) (c .before .before .if2 .left)), omega (arith, c .before .before .before .before .before .before .before .before .before .before .before .before .before .before .before .before .pre .4, record-size _ (new-there _ (c .before .before .before .before .before .before .before .before .before .before .before .before .before .before .before .before .args .w .now) (c .before .before .before .before .before .before .before .before .before .before .before .before .before .before .before .before .args .room) (c .before .before .before .before .before .before .before .before .before .before .copy-partition .ensures) (c .before .before .before .before .before .before .before .if1 .left) (c .before .before .before .before .before .change .ensures) (c .before .before .if2 .left) .is)))
+put-real-requires c κs = (c .before .before .before .before .before .before .before .before .before .before .before .before .before .before .before .before .pre .0, new-there _ (c .before .before .before .before .before .before .before .before .before .before .before .before .before .before .before .before .args .w .now) (c .before .before .before .before .before .before .before .before .before .before .before .before .before .before .before .before .args .bounds) (c .before .before .before .before .before .before .before .before .before .before .copy-partition .ensures) (c .before .before .before .before .before .before .before .if1 .left) (c .before .before .before .before .before .change .ensures) (c .before .before .if2 .left) .is, part-kept _ (new-there _ (c .before .before .before .before .before .before .before .before .before .before .before .before .before .before .before .before .args .w .now) (c .before .before .before .before .before .before .before .before .before .before .before .before .before .before .before .before .args .bounds) (c .before .before .before .before .before .before .before .before .before .before .copy-partition .ensures) (c .before .before .before .before .before .before .before .if1 .left) (c .before .before .before .before .before .change .ensures) (c .before .before .if2 .left)), omega (arith, c .before .before .before .before .before .before .before .before .before .before .before .before .before .before .before .before .pre .4, record-size _ (new-there _ (c .before .before .before .before .before .before .before .before .before .before .before .before .before .before .before .before .args .w .now) (c .before .before .before .before .before .before .before .before .before .before .before .before .before .before .before .before .args .bounds) (c .before .before .before .before .before .before .before .before .before .before .copy-partition .ensures) (c .before .before .before .before .before .before .before .if1 .left) (c .before .before .before .before .before .change .ensures) (c .before .before .if2 .left) .is)))
 
 same-length-5 : tie.Need-same-length-5
 same-length-5 c = search needs
@@ -54,7 +54,7 @@ same-length-6 : tie.Need-same-length-6
 same-length-6 c = search needs
 
 returns-3 : tie.Need-returns-3
-returns-3 c = assigned-there _ (c .before .before .before .before .before .before .before .before .before .before .before .before .before .before .before .before .before .before .before .args .w .now) (c .before .before .before .before .before .before .before .before .before .before .before .before .before .before .before .before .before .before .before .args .room) (c .before .before .before .before .before .before .before .before .before .before .before .before .before .copy-partition .ensures) (c .before .before .before .before .before .before .before .before .before .before .if1 .left) (c .before .before .before .before .before .before .before .before .change .ensures) (c .before .before .before .before .before .if2 .left) (c .before .before .before .before .before .before .before .before .before .before .before .before .before .before .before .before .before .before .before .pre .3) (c .before .before .put-real .ensures)
+returns-3 c = assigned-there _ (c .before .before .before .before .before .before .before .before .before .before .before .before .before .before .before .before .before .before .before .args .w .now) (c .before .before .before .before .before .before .before .before .before .before .before .before .before .before .before .before .before .before .before .args .bounds) (c .before .before .before .before .before .before .before .before .before .before .before .before .before .copy-partition .ensures) (c .before .before .before .before .before .before .before .before .before .before .if1 .left) (c .before .before .before .before .before .before .before .before .change .ensures) (c .before .before .before .before .before .if2 .left) (c .before .before .before .before .before .before .before .before .before .before .before .before .before .before .before .before .before .before .before .pre .3) (c .before .before .put-real .ensures)
 
 pub assign-spec : {M : Type 1} → statement M
 assign-spec =

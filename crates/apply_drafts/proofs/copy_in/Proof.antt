@@ -1,7 +1,7 @@
 -- `apply_drafts::copy_in` meets its contract: the record stands at the start.
 use borrow.Author.Needs.{needs}
 use mathlib.Core.Path.{refl}
-use Rattle.apply_drafts.proofs.Fronts.{written-front}
+use Rattle.apply_drafts.proofs.Fronts.{put-at-front}
 use Rattle.apply_drafts.proofs.copy_in.Statement.{statement}
 use Rattle.apply_drafts.proofs.copy_in.Tie as tie
 
@@ -14,7 +14,7 @@ same-length c = search needs
 returns : tie.Need-returns
 returns c =
     let a = c .before .before .before .before .before .before .args in
-    (refl, written-front (a .b .now) (a .rec .now) (c .before .before .copy .ensures))
+    (refl, put-at-front (a .b .now) (a .rec .now) (c .before .before .copy .ensures))
 
 pub copy-in-spec : {M : Type 1} → statement M
 copy-in-spec = tie.close (tie.spec copy-requires same-length returns)

@@ -63,7 +63,7 @@ returns c =
     let d = p .before .before .before .before in
     let r = d .before .before .before .before .before in
     let s = r .before .before .before .before .before in
-    joined (s .args .rec .now) _ (bytes-in (r .before .before)) (s .pre .1) (s .pre .2) (r .group-record .ensures .0) (s .args .w .now) (s .args .room)
+    joined (s .args .rec .now) _ (bytes-in (r .before .before)) (s .pre .1) (s .pre .2) (r .group-record .ensures .0) (s .args .w .now) (s .args .bounds)
     (d .drop-group .ensures) (p .put-real .ensures)
 
 pub join-spec : {M : Type 1} → statement M

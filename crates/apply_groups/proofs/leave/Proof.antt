@@ -93,7 +93,7 @@ returns c =
     let d = t .before .before .before .before .before .before in
     let r = d .before .before .before .before in
     let s = r .before .before .before .before .before in
-    left-last (s .args .rec .now) _ (bytes-in (r .before .before)) (s .pre .1) (s .pre .2) (r .group-record .ensures .0) (s .args .w .now) (s .args .room)
+    left-last (s .args .rec .now) _ (bytes-in (r .before .before)) (s .pre .1) (s .pre .2) (r .group-record .ensures .0) (s .args .w .now) (s .args .bounds)
     (d .drop-real .ensures) (t .before .is-apart .ensures) (t .if1 .taken) (p .put-group .ensures) (omega (arith, group-long r, r .group-record .ensures .1))
 
 same-length-3 : tie.Need-same-length-3
@@ -108,7 +108,7 @@ returns-2 c =
     let d = a .before .before .before .before .before in
     let r = d .before .before .before .before in
     let s = r .before .before .before .before .before in
-    left-others (s .args .rec .now) _ (bytes-in (r .before .before)) (s .pre .1) (s .pre .2) (r .group-record .ensures .0) (s .args .w .now) (s .args .room)
+    left-others (s .args .rec .now) _ (bytes-in (r .before .before)) (s .pre .1) (s .pre .2) (r .group-record .ensures .0) (s .args .w .now) (s .args .bounds)
     (d .drop-real .ensures) (a .is-apart .ensures) (c .if1 .left)
 
 pub leave-spec : {M : Type 1} → statement M

@@ -3,7 +3,7 @@ use borrow.Author.Needs.{needs}
 use Rattle.model.specs.Run.{value}
 use Rattle.model.specs.Move.{storedOffset}
 use Rattle.entries.specs.Entries.{recordIn}
-use Rattle.judge.specs.Judge.{entriesIn}
+use Rattle.entries.specs.Held.{entriesIn}
 use Rattle.apply_offsets.proofs.Sums.{sum-is}
 use Rattle.apply_offsets.proofs.Offsets.{advance-asked, advance-place}
 use Rattle.apply_offsets.proofs.sum_of.Statement.{statement}

@@ -1,8 +1,8 @@
 -- `erase_first` meets its contract.
 use borrow.Author.Needs.{needs}
 use mathlib.Core.Path.{refl}
-use Rattle.judge.proofs.Fields.{lent-value}
-use Rattle.judge.proofs.Queries.{lent-query}
+use Rattle.keys.proofs.Fields.{lent-value}
+use Rattle.find.proofs.Queries.{lent-query}
 use Rattle.apply_plan.proofs.Arms.{drop-lent}
 use Rattle.apply_plan.proofs.erase_first.Statement.{statement}
 use Rattle.apply_plan.proofs.erase_first.Tie as tie

@@ -7,14 +7,12 @@ use Rattle.model.specs.declared.Kind.the-variants.{Partition, BrokerRegistratio
 use Rattle.laws.specs.Choice.{impossible}
 use Rattle.laws.specs.Numbers.{length-bytes}
 use Rattle.laws.specs.Refused.{no-kind}
-use Rattle.judge.proofs.Logged.{headed, kind-zero, kind-past}
-use Rattle.judge.proofs.Queries.{controller-query}
+use Rattle.find.proofs.Logged.{headed, kind-zero, kind-past}
+use Rattle.find.proofs.Queries.{controller-query}
 use Rattle.apply_plan.proofs.Steps.{epoch-width, kraft-width}
 use Rattle.apply_plan.proofs.Arms.{drop-lent}
-use Rattle.apply_plan.proofs.ByKind.{logged-is, record-kind, by-record, broker, topic-config, level, metrics, group, controller, freeze, proposal, elr, recovery}
-use Rattle.apply_plan.proofs.ByKind.{set-is, set-is-plain, set-made, topic-made, part-made, delete-made, name-fits, update-made}
-use Rattle.apply_plan.proofs.ByKind.{proposal-asked, proposal-made, controller-width, controller-made, config-made, config-grouped, config-ordered}
-use Rattle.apply_plan.proofs.OnStates.{planned-room, planned-level, planned-epoch, planned-kraft, planned-offset}
+use Rattle.apply_plan.proofs.ByKind.{logged-is, record-kind, by-record, broker, topic-config, level, metrics, group, controller, freeze, proposal, elr, recovery, set-is, set-is-plain, set-made, topic-made, part-made, delete-made, name-fits, update-made, proposal-asked, proposal-made, controller-width, controller-made, config-made, config-grouped, config-ordered}
+use Rattle.apply_plan.proofs.OnStates.{planned-bounds, planned-level, planned-epoch, planned-kraft, planned-offset}
 use Rattle.apply_plan.proofs.make.Statement.{statement}
 use Rattle.apply_plan.proofs.make.Tie as tie
 
@@ -24,8 +22,8 @@ shared-slice-read-match c = let start = c .before .before .before .before .befor
 put-topic-requires : tie.Need-put-topic-requires
 put-topic-requires c κs = search needs
 
-with-room-requires : tie.Need-with-room-requires
-with-room-requires c κs = search needs
+with-bounds-requires : tie.Need-with-bounds-requires
+with-bounds-requires c κs = search needs
 
 put-partition-requires : tie.Need-put-partition-requires
 unfolding kindNumber
@@ -33,8 +31,8 @@ put-partition-requires c κs =
     let ready = c .before .before .before .before .before .before .before .before .pre in
     (ready .0 .good, logged-is _ (ready .0 .logged) Partition (c .before .match .keys2) (λ e. impossible cc), record-kind _ (ready .0 .logged) Partition (c .before .match .keys2) (λ e. impossible cc), ready .0 .counts, omega (arith, ready .0 .space))
 
-with-room-requires-2 : tie.Need-with-room-requires-2
-with-room-requires-2 c κs = search needs
+with-bounds-requires-2 : tie.Need-with-bounds-requires-2
+with-bounds-requires-2 c κs = search needs
 
 set-requires : tie.Need-set-requires
 unfolding kindNumber
@@ -43,8 +41,8 @@ set-requires c κs =
     let is = c .before .match .keys3 in
     (ready .0 .good, set-is _ (ready .0 .logged) BrokerRegistration broker is, set-is-plain _ (ready .0 .logged) BrokerRegistration broker is, omega (arith, ready .0 .space))
 
-with-room-requires-3 : tie.Need-with-room-requires-3
-with-room-requires-3 c κs = search needs
+with-bounds-requires-3 : tie.Need-with-bounds-requires-3
+with-bounds-requires-3 c κs = search needs
 
 delete-topic-requires : tie.Need-delete-topic-requires
 unfolding kindNumber
@@ -52,8 +50,8 @@ delete-topic-requires c κs =
     let ready = c .before .before .before .before .before .before .before .before .pre in
     (ready .0 .good, headed _ (ready .0 .logged), name-fits _ (ready .0 .logged) (c .before .match .keys4))
 
-with-room-requires-4 : tie.Need-with-room-requires-4
-with-room-requires-4 c κs = search needs
+with-bounds-requires-4 : tie.Need-with-bounds-requires-4
+with-bounds-requires-4 c κs = search needs
 
 set-requires-2 : tie.Need-set-requires-2
 unfolding kindNumber
@@ -62,8 +60,8 @@ set-requires-2 c κs =
     let is = c .before .match .keys5 in
     (ready .0 .good, set-is _ (ready .0 .logged) TopicConfig topic-config is, set-is-plain _ (ready .0 .logged) TopicConfig topic-config is, omega (arith, ready .0 .space))
 
-with-room-requires-5 : tie.Need-with-room-requires-5
-with-room-requires-5 c κs = search needs
+with-bounds-requires-5 : tie.Need-with-bounds-requires-5
+with-bounds-requires-5 c κs = search needs
 
 member-requires : tie.Need-member-requires
 unfolding kindNumber
@@ -78,8 +76,8 @@ member-requires c κs =
       ready .1,
     )
 
-with-room-requires-6 : tie.Need-with-room-requires-6
-with-room-requires-6 c κs = search needs
+with-bounds-requires-6 : tie.Need-with-bounds-requires-6
+with-bounds-requires-6 c κs = search needs
 
 quota-requires : tie.Need-quota-requires
 unfolding kindNumber
@@ -87,8 +85,8 @@ quota-requires c κs =
     let ready = c .before .before .before .before .before .before .before .before .before .before .pre in
     (ready .0 .good, logged-is _ (ready .0 .logged) ClientQuota (c .before .before .before .match .keys7) (λ e. impossible cc), record-kind _ (ready .0 .logged) ClientQuota (c .before .before .before .match .keys7) (λ e. impossible cc), omega (arith, ready .0 .space), ready .1, ready .2)
 
-with-room-requires-7 : tie.Need-with-room-requires-7
-with-room-requires-7 c κs = search needs
+with-bounds-requires-7 : tie.Need-with-bounds-requires-7
+with-bounds-requires-7 c κs = search needs
 
 producers-requires : tie.Need-producers-requires
 unfolding kindNumber
@@ -96,8 +94,8 @@ producers-requires c κs =
     let ready = c .before .before .before .before .before .before .before .before .pre in
     (ready .0 .good, logged-is _ (ready .0 .logged) ProducerIds (c .before .match .keys8) (λ e. impossible cc), record-kind _ (ready .0 .logged) ProducerIds (c .before .match .keys8) (λ e. impossible cc), ready .0 .stored, omega (arith, ready .0 .space))
 
-with-room-requires-8 : tie.Need-with-room-requires-8
-with-room-requires-8 c κs = search needs
+with-bounds-requires-8 : tie.Need-with-bounds-requires-8
+with-bounds-requires-8 c κs = search needs
 
 unregister-requires : tie.Need-unregister-requires
 unfolding kindNumber
@@ -105,8 +103,8 @@ unregister-requires c κs =
     let ready = c .before .before .before .before .before .before .before .before .pre in
     (ready .0 .good, logged-is _ (ready .0 .logged) UnregisterBroker (c .before .match .keys9) (λ e. impossible cc), record-kind _ (ready .0 .logged) UnregisterBroker (c .before .match .keys9) (λ e. impossible cc))
 
-with-room-requires-9 : tie.Need-with-room-requires-9
-with-room-requires-9 c κs = search needs
+with-bounds-requires-9 : tie.Need-with-bounds-requires-9
+with-bounds-requires-9 c κs = search needs
 
 with-kraft-requires : tie.Need-with-kraft-requires
 unfolding kindNumber
@@ -131,8 +129,8 @@ set-requires-4 c κs =
     let is = c .before .match .keys12 in
     (ready .0 .good, set-is _ (ready .0 .logged) ClientMetricsConfig metrics is, set-is-plain _ (ready .0 .logged) ClientMetricsConfig metrics is, omega (arith, ready .0 .space))
 
-with-room-requires-10 : tie.Need-with-room-requires-10
-with-room-requires-10 c κs = search needs
+with-bounds-requires-10 : tie.Need-with-bounds-requires-10
+with-bounds-requires-10 c κs = search needs
 
 with-epoch-requires : tie.Need-with-epoch-requires
 unfolding kindNumber
@@ -146,8 +144,8 @@ assign-requires c κs =
     let ready = c .before .before .before .before .before .before .before .before .before .pre in
     (ready .0 .good, logged-is _ (ready .0 .logged) PartitionDirAssignment (c .before .before .match .keys14) (λ e. impossible cc), record-kind _ (ready .0 .logged) PartitionDirAssignment (c .before .before .match .keys14) (λ e. impossible cc), ready .0 .ascends, omega (arith, ready .0 .space), ready .1)
 
-with-room-requires-11 : tie.Need-with-room-requires-11
-with-room-requires-11 c κs = search needs
+with-bounds-requires-11 : tie.Need-with-bounds-requires-11
+with-bounds-requires-11 c κs = search needs
 
 add-offset-requires : tie.Need-add-offset-requires
 unfolding kindNumber
@@ -162,8 +160,8 @@ set-requires-5 c κs =
     let is = c .before .match .keys16 in
     (ready .0 .good, set-is _ (ready .0 .logged) GroupConfig group is, set-is-plain _ (ready .0 .logged) GroupConfig group is, omega (arith, ready .0 .space))
 
-with-room-requires-12 : tie.Need-with-room-requires-12
-with-room-requires-12 c κs = search needs
+with-bounds-requires-12 : tie.Need-with-bounds-requires-12
+with-bounds-requires-12 c κs = search needs
 
 set-requires-6 : tie.Need-set-requires-6
 unfolding kindNumber
@@ -172,8 +170,8 @@ set-requires-6 c κs =
     let is = c .before .match .keys17 in
     (ready .0 .good, set-is _ (ready .0 .logged) ControllerRegistration controller is, set-is-plain _ (ready .0 .logged) ControllerRegistration controller is, omega (arith, ready .0 .space))
 
-with-room-requires-13 : tie.Need-with-room-requires-13
-with-room-requires-13 c κs = search needs
+with-bounds-requires-13 : tie.Need-with-bounds-requires-13
+with-bounds-requires-13 c κs = search needs
 
 set-requires-7 : tie.Need-set-requires-7
 unfolding kindNumber
@@ -182,8 +180,8 @@ set-requires-7 c κs =
     let is = c .before .match .keys18 in
     (ready .0 .good, set-is _ (ready .0 .logged) TopicFreeze freeze is, set-is-plain _ (ready .0 .logged) TopicFreeze freeze is, omega (arith, ready .0 .space))
 
-with-room-requires-14 : tie.Need-with-room-requires-14
-with-room-requires-14 c κs = search needs
+with-bounds-requires-14 : tie.Need-with-bounds-requires-14
+with-bounds-requires-14 c κs = search needs
 
 set-requires-8 : tie.Need-set-requires-8
 unfolding kindNumber
@@ -192,8 +190,8 @@ set-requires-8 c κs =
     let is = c .before .match .keys19 in
     (ready .0 .good, set-is _ (ready .0 .logged) BreakGlassProposal proposal is, set-is-plain _ (ready .0 .logged) BreakGlassProposal proposal is, omega (arith, ready .0 .space))
 
-with-room-requires-15 : tie.Need-with-room-requires-15
-with-room-requires-15 c κs = search needs
+with-bounds-requires-15 : tie.Need-with-bounds-requires-15
+with-bounds-requires-15 c κs = search needs
 
 erase-first-requires : tie.Need-erase-first-requires
 unfolding kindNumber
@@ -201,8 +199,8 @@ erase-first-requires c κs =
     let ready = c .before .before .before .before .before .before .before .before .pre in
     (ready .0 .good, headed _ (ready .0 .logged), proposal-asked _ (ready .0 .logged) (c .before .match .keys20))
 
-with-room-requires-16 : tie.Need-with-room-requires-16
-with-room-requires-16 c κs = search needs
+with-bounds-requires-16 : tie.Need-with-bounds-requires-16
+with-bounds-requires-16 c κs = search needs
 
 set-requires-9 : tie.Need-set-requires-9
 unfolding kindNumber
@@ -211,8 +209,8 @@ set-requires-9 c κs =
     let is = c .before .match .keys21 in
     (ready .0 .good, set-is _ (ready .0 .logged) PartitionElr elr is, set-is-plain _ (ready .0 .logged) PartitionElr elr is, omega (arith, ready .0 .space))
 
-with-room-requires-17 : tie.Need-with-room-requires-17
-with-room-requires-17 c κs = search needs
+with-bounds-requires-17 : tie.Need-with-bounds-requires-17
+with-bounds-requires-17 c κs = search needs
 
 set-requires-10 : tie.Need-set-requires-10
 unfolding kindNumber
@@ -221,8 +219,8 @@ set-requires-10 c κs =
     let is = c .before .match .keys22 in
     (ready .0 .good, set-is _ (ready .0 .logged) PartitionRecovery recovery is, set-is-plain _ (ready .0 .logged) PartitionRecovery recovery is, omega (arith, ready .0 .space))
 
-with-room-requires-18 : tie.Need-with-room-requires-18
-with-room-requires-18 c κs = search needs
+with-bounds-requires-18 : tie.Need-with-bounds-requires-18
+with-bounds-requires-18 c κs = search needs
 
 update-requires : tie.Need-update-requires
 unfolding kindNumber
@@ -230,8 +228,8 @@ update-requires c κs =
     let ready = c .before .before .before .before .before .before .before .before .before .pre in
     (ready .0 .good, logged-is _ (ready .0 .logged) PartitionUpdate (c .before .before .match .keys23) (λ e. impossible cc), record-kind _ (ready .0 .logged) PartitionUpdate (c .before .before .match .keys23) (λ e. impossible cc), ready .0 .counts, ready .0 .space, ready .1)
 
-with-room-requires-19 : tie.Need-with-room-requires-19
-with-room-requires-19 c κs = search needs
+with-bounds-requires-19 : tie.Need-with-bounds-requires-19
+with-bounds-requires-19 c κs = search needs
 
 change-broker-requires : tie.Need-change-broker-requires
 unfolding kindNumber
@@ -239,8 +237,8 @@ change-broker-requires c κs =
     let ready = c .before .before .before .before .before .before .before .before .before .pre in
     (ready .0 .good, logged-is _ (ready .0 .logged) BrokerRegistrationChange (c .before .before .match .keys24) (λ e. impossible cc), record-kind _ (ready .0 .logged) BrokerRegistrationChange (c .before .before .match .keys24) (λ e. impossible cc), omega (arith, ready .0 .space), ready .1)
 
-with-room-requires-20 : tie.Need-with-room-requires-20
-with-room-requires-20 c κs = search needs
+with-bounds-requires-20 : tie.Need-with-bounds-requires-20
+with-bounds-requires-20 c κs = search needs
 
 node-at-requires : tie.Need-node-at-requires
 unfolding kindNumber
@@ -254,8 +252,8 @@ erase-node-requires c κs =
     let ready = c .before .before .before .before .before .before .before .before .before .pre in
     (ready .0 .good, controller-query _ (length-bytes 8 (c .node-at .result .0)))
 
-with-room-requires-21 : tie.Need-with-room-requires-21
-with-room-requires-21 c κs = search needs
+with-bounds-requires-21 : tie.Need-with-bounds-requires-21
+with-bounds-requires-21 c κs = search needs
 
 same-length : tie.Need-same-length
 same-length c = search needs
@@ -270,7 +268,7 @@ returns c =
     let ready = start .pre .0 in
     let is = c .before .before .before .before .before .before .before .before .match .keys1 in
     let made = topic-made _ (ready .logged) is (c .before .before .before .before .before .put-topic .ensures) in
-    planned-room (start .args .rec .now) (ready .logged) (start .args .w .now) _ (start .args .state) made is (refl, refl, refl, refl) (c .with-room .ensures)
+    planned-bounds (start .args .rec .now) (ready .logged) (start .args .w .now) _ (start .args .state) made is (refl, refl, refl, refl) (c .with-bounds .ensures)
 
 same-length-3 : tie.Need-same-length-3
 same-length-3 c = search needs
@@ -282,7 +280,7 @@ returns-2 c =
     let ready = start .pre .0 in
     let is = c .before .before .before .before .before .match .keys2 in
     let made = part-made _ (ready .logged) is (c .before .before .before .put-partition .ensures) in
-    planned-room (start .args .rec .now) (ready .logged) (start .args .w .now) _ (start .args .state) made is (refl, refl, refl, refl) (c .with-room2 .ensures)
+    planned-bounds (start .args .rec .now) (ready .logged) (start .args .w .now) _ (start .args .state) made is (refl, refl, refl, refl) (c .with-bounds2 .ensures)
 
 same-length-4 : tie.Need-same-length-4
 same-length-4 c = search needs
@@ -294,7 +292,7 @@ returns-3 c =
     let ready = start .pre .0 in
     let is = c .before .before .before .before .before .match .keys3 in
     let made = set-made _ (ready .logged) BrokerRegistration broker is (ready .good) (c .before .before .before .set .ensures) in
-    planned-room (start .args .rec .now) (ready .logged) (start .args .w .now) _ (start .args .state) made is (refl, refl, refl, refl) (c .with-room3 .ensures)
+    planned-bounds (start .args .rec .now) (ready .logged) (start .args .w .now) _ (start .args .state) made is (refl, refl, refl, refl) (c .with-bounds3 .ensures)
 
 same-length-5 : tie.Need-same-length-5
 same-length-5 c = search needs
@@ -306,7 +304,7 @@ returns-4 c =
     let ready = start .pre .0 in
     let is = c .before .before .before .before .before .match .keys4 in
     let made = delete-made _ (ready .logged) is (c .before .before .before .delete-topic .ensures) in
-    planned-room (start .args .rec .now) (ready .logged) (start .args .w .now) _ (start .args .state) made is (refl, refl, refl, refl) (c .with-room4 .ensures)
+    planned-bounds (start .args .rec .now) (ready .logged) (start .args .w .now) _ (start .args .state) made is (refl, refl, refl, refl) (c .with-bounds4 .ensures)
 
 same-length-6 : tie.Need-same-length-6
 same-length-6 c = search needs
@@ -318,7 +316,7 @@ returns-5 c =
     let ready = start .pre .0 in
     let is = c .before .before .before .before .before .match .keys5 in
     let made = set-made _ (ready .logged) TopicConfig topic-config is (ready .good) (c .before .before .before .set2 .ensures) in
-    planned-room (start .args .rec .now) (ready .logged) (start .args .w .now) _ (start .args .state) made is (refl, refl, refl, refl) (c .with-room5 .ensures)
+    planned-bounds (start .args .rec .now) (ready .logged) (start .args .w .now) _ (start .args .state) made is (refl, refl, refl, refl) (c .with-bounds5 .ensures)
 
 same-length-7 : tie.Need-same-length-7
 same-length-7 c = search needs
@@ -333,7 +331,7 @@ returns-6 c =
     let ready = start .pre .0 in
     let is = c .before .before .before .before .before .before .before .before .match .keys6 in
     let made = config-made _ (ready .logged) is (c .before .before .before .before .before .member .ensures) in
-    planned-room (start .args .rec .now) (ready .logged) (start .args .w .now) _ (start .args .state) made is (refl, refl, refl, refl) (c .with-room6 .ensures)
+    planned-bounds (start .args .rec .now) (ready .logged) (start .args .w .now) _ (start .args .state) made is (refl, refl, refl, refl) (c .with-bounds6 .ensures)
 
 same-length-9 : tie.Need-same-length-9
 same-length-9 c = search needs
@@ -351,7 +349,7 @@ returns-7 c =
     let ready = start .pre .0 in
     let is = c .before .before .before .before .before .before .before .before .before .before .before .match .keys7 in
     let made = by-record _ (ready .logged) ClientQuota is (λ e. impossible cc) (c .before .before .before .before .before .before .before .quota .ensures) in
-    planned-room (start .args .rec .now) (ready .logged) (start .args .w .now) _ (start .args .state) made is (refl, refl, refl, refl) (c .with-room7 .ensures)
+    planned-bounds (start .args .rec .now) (ready .logged) (start .args .w .now) _ (start .args .state) made is (refl, refl, refl, refl) (c .with-bounds7 .ensures)
 
 same-length-12 : tie.Need-same-length-12
 same-length-12 c = search needs
@@ -363,7 +361,7 @@ returns-8 c =
     let ready = start .pre .0 in
     let is = c .before .before .before .before .before .match .keys8 in
     let made = by-record _ (ready .logged) ProducerIds is (λ e. impossible cc) (c .before .before .before .producers .ensures) in
-    planned-room (start .args .rec .now) (ready .logged) (start .args .w .now) _ (start .args .state) made is (refl, refl, refl, refl) (c .with-room8 .ensures)
+    planned-bounds (start .args .rec .now) (ready .logged) (start .args .w .now) _ (start .args .state) made is (refl, refl, refl, refl) (c .with-bounds8 .ensures)
 
 same-length-13 : tie.Need-same-length-13
 same-length-13 c = search needs
@@ -375,7 +373,7 @@ returns-9 c =
     let ready = start .pre .0 in
     let is = c .before .before .before .before .before .match .keys9 in
     let made = by-record _ (ready .logged) UnregisterBroker is (λ e. impossible cc) (c .before .before .before .unregister .ensures) in
-    planned-room (start .args .rec .now) (ready .logged) (start .args .w .now) _ (start .args .state) made is (refl, refl, refl, refl) (c .with-room9 .ensures)
+    planned-bounds (start .args .rec .now) (ready .logged) (start .args .w .now) _ (start .args .state) made is (refl, refl, refl, refl) (c .with-bounds9 .ensures)
 
 returns-10 : tie.Need-returns-10
 returns-10 c =
@@ -405,7 +403,7 @@ returns-12 c =
     let ready = start .pre .0 in
     let is = c .before .before .before .before .before .match .keys12 in
     let made = set-made _ (ready .logged) ClientMetricsConfig metrics is (ready .good) (c .before .before .before .set4 .ensures) in
-    planned-room (start .args .rec .now) (ready .logged) (start .args .w .now) _ (start .args .state) made is (refl, refl, refl, refl) (c .with-room10 .ensures)
+    planned-bounds (start .args .rec .now) (ready .logged) (start .args .w .now) _ (start .args .state) made is (refl, refl, refl, refl) (c .with-bounds10 .ensures)
 
 returns-13 : tie.Need-returns-13
 returns-13 c =
@@ -426,7 +424,7 @@ returns-14 c =
     let ready = start .pre .0 in
     let is = c .before .before .before .before .before .before .before .before .match .keys14 in
     let made = by-record _ (ready .logged) PartitionDirAssignment is (λ e. impossible cc) (c .before .before .before .before .before .assign .ensures) in
-    planned-room (start .args .rec .now) (ready .logged) (start .args .w .now) _ (start .args .state) made is (refl, refl, refl, refl) (c .with-room11 .ensures)
+    planned-bounds (start .args .rec .now) (ready .logged) (start .args .w .now) _ (start .args .state) made is (refl, refl, refl, refl) (c .with-bounds11 .ensures)
 
 same-length-18 : tie.Need-same-length-18
 same-length-18 c = search needs
@@ -450,7 +448,7 @@ returns-16 c =
     let ready = start .pre .0 in
     let is = c .before .before .before .before .before .match .keys16 in
     let made = set-made _ (ready .logged) GroupConfig group is (ready .good) (c .before .before .before .set5 .ensures) in
-    planned-room (start .args .rec .now) (ready .logged) (start .args .w .now) _ (start .args .state) made is (refl, refl, refl, refl) (c .with-room12 .ensures)
+    planned-bounds (start .args .rec .now) (ready .logged) (start .args .w .now) _ (start .args .state) made is (refl, refl, refl, refl) (c .with-bounds12 .ensures)
 
 same-length-21 : tie.Need-same-length-21
 same-length-21 c = search needs
@@ -462,7 +460,7 @@ returns-17 c =
     let ready = start .pre .0 in
     let is = c .before .before .before .before .before .match .keys17 in
     let made = set-made _ (ready .logged) ControllerRegistration controller is (ready .good) (c .before .before .before .set6 .ensures) in
-    planned-room (start .args .rec .now) (ready .logged) (start .args .w .now) _ (start .args .state) made is (refl, refl, refl, refl) (c .with-room13 .ensures)
+    planned-bounds (start .args .rec .now) (ready .logged) (start .args .w .now) _ (start .args .state) made is (refl, refl, refl, refl) (c .with-bounds13 .ensures)
 
 same-length-22 : tie.Need-same-length-22
 same-length-22 c = search needs
@@ -474,7 +472,7 @@ returns-18 c =
     let ready = start .pre .0 in
     let is = c .before .before .before .before .before .match .keys18 in
     let made = set-made _ (ready .logged) TopicFreeze freeze is (ready .good) (c .before .before .before .set7 .ensures) in
-    planned-room (start .args .rec .now) (ready .logged) (start .args .w .now) _ (start .args .state) made is (refl, refl, refl, refl) (c .with-room14 .ensures)
+    planned-bounds (start .args .rec .now) (ready .logged) (start .args .w .now) _ (start .args .state) made is (refl, refl, refl, refl) (c .with-bounds14 .ensures)
 
 same-length-23 : tie.Need-same-length-23
 same-length-23 c = search needs
@@ -486,7 +484,7 @@ returns-19 c =
     let ready = start .pre .0 in
     let is = c .before .before .before .before .before .match .keys19 in
     let made = set-made _ (ready .logged) BreakGlassProposal proposal is (ready .good) (c .before .before .before .set8 .ensures) in
-    planned-room (start .args .rec .now) (ready .logged) (start .args .w .now) _ (start .args .state) made is (refl, refl, refl, refl) (c .with-room15 .ensures)
+    planned-bounds (start .args .rec .now) (ready .logged) (start .args .w .now) _ (start .args .state) made is (refl, refl, refl, refl) (c .with-bounds15 .ensures)
 
 same-length-24 : tie.Need-same-length-24
 same-length-24 c = search needs
@@ -498,7 +496,7 @@ returns-20 c =
     let ready = start .pre .0 in
     let is = c .before .before .before .before .before .match .keys20 in
     let made = proposal-made _ (ready .logged) is (c .before .before .before .erase-first .ensures) in
-    planned-room (start .args .rec .now) (ready .logged) (start .args .w .now) _ (start .args .state) made is (refl, refl, refl, refl) (c .with-room16 .ensures)
+    planned-bounds (start .args .rec .now) (ready .logged) (start .args .w .now) _ (start .args .state) made is (refl, refl, refl, refl) (c .with-bounds16 .ensures)
 
 same-length-25 : tie.Need-same-length-25
 same-length-25 c = search needs
@@ -510,7 +508,7 @@ returns-21 c =
     let ready = start .pre .0 in
     let is = c .before .before .before .before .before .match .keys21 in
     let made = set-made _ (ready .logged) PartitionElr elr is (ready .good) (c .before .before .before .set9 .ensures) in
-    planned-room (start .args .rec .now) (ready .logged) (start .args .w .now) _ (start .args .state) made is (refl, refl, refl, refl) (c .with-room17 .ensures)
+    planned-bounds (start .args .rec .now) (ready .logged) (start .args .w .now) _ (start .args .state) made is (refl, refl, refl, refl) (c .with-bounds17 .ensures)
 
 same-length-26 : tie.Need-same-length-26
 same-length-26 c = search needs
@@ -522,7 +520,7 @@ returns-22 c =
     let ready = start .pre .0 in
     let is = c .before .before .before .before .before .match .keys22 in
     let made = set-made _ (ready .logged) PartitionRecovery recovery is (ready .good) (c .before .before .before .set10 .ensures) in
-    planned-room (start .args .rec .now) (ready .logged) (start .args .w .now) _ (start .args .state) made is (refl, refl, refl, refl) (c .with-room18 .ensures)
+    planned-bounds (start .args .rec .now) (ready .logged) (start .args .w .now) _ (start .args .state) made is (refl, refl, refl, refl) (c .with-bounds18 .ensures)
 
 same-length-27 : tie.Need-same-length-27
 same-length-27 c = search needs
@@ -537,7 +535,7 @@ returns-23 c =
     let ready = start .pre .0 in
     let is = c .before .before .before .before .before .before .before .before .match .keys23 in
     let made = update-made _ (ready .logged) is (c .before .before .before .before .before .update .ensures) in
-    planned-room (start .args .rec .now) (ready .logged) (start .args .w .now) _ (start .args .state) made is (refl, refl, refl, refl) (c .with-room19 .ensures)
+    planned-bounds (start .args .rec .now) (ready .logged) (start .args .w .now) _ (start .args .state) made is (refl, refl, refl, refl) (c .with-bounds19 .ensures)
 
 same-length-29 : tie.Need-same-length-29
 same-length-29 c = search needs
@@ -552,7 +550,7 @@ returns-24 c =
     let ready = start .pre .0 in
     let is = c .before .before .before .before .before .before .before .before .match .keys24 in
     let made = by-record _ (ready .logged) BrokerRegistrationChange is (λ e. impossible cc) (c .before .before .before .before .before .change-broker .ensures) in
-    planned-room (start .args .rec .now) (ready .logged) (start .args .w .now) _ (start .args .state) made is (refl, refl, refl, refl) (c .with-room20 .ensures)
+    planned-bounds (start .args .rec .now) (ready .logged) (start .args .w .now) _ (start .args .state) made is (refl, refl, refl, refl) (c .with-bounds20 .ensures)
 
 same-length-31 : tie.Need-same-length-31
 same-length-31 c = search needs
@@ -564,7 +562,7 @@ returns-25 c =
     let ready = start .pre .0 in
     let is = c .before .before .before .before .before .before .match .keys25 in
     let made = controller-made _ (ready .logged) is (drop-lent 17 (c .before .before .before .before .node-at .ensures) (c .before .before .before .erase-node .ensures)) in
-    planned-room (start .args .rec .now) (ready .logged) (start .args .w .now) _ (start .args .state) made is (refl, refl, refl, refl) (c .with-room21 .ensures)
+    planned-bounds (start .args .rec .now) (ready .logged) (start .args .w .now) _ (start .args .state) made is (refl, refl, refl, refl) (c .with-bounds21 .ensures)
 
 returns-26 : tie.Need-returns-26
 unfolding kindNumber
@@ -579,53 +577,53 @@ make-spec =
     (tie.spec
     shared-slice-read-match
     put-topic-requires
-    with-room-requires
+    with-bounds-requires
     put-partition-requires
-    with-room-requires-2
+    with-bounds-requires-2
     set-requires
-    with-room-requires-3
+    with-bounds-requires-3
     delete-topic-requires
-    with-room-requires-4
+    with-bounds-requires-4
     set-requires-2
-    with-room-requires-5
+    with-bounds-requires-5
     member-requires
-    with-room-requires-6
+    with-bounds-requires-6
     quota-requires
-    with-room-requires-7
+    with-bounds-requires-7
     producers-requires
-    with-room-requires-8
+    with-bounds-requires-8
     unregister-requires
-    with-room-requires-9
+    with-bounds-requires-9
     with-kraft-requires
     set-requires-3
     with-level-requires
     set-requires-4
-    with-room-requires-10
+    with-bounds-requires-10
     with-epoch-requires
     assign-requires
-    with-room-requires-11
+    with-bounds-requires-11
     add-offset-requires
     set-requires-5
-    with-room-requires-12
+    with-bounds-requires-12
     set-requires-6
-    with-room-requires-13
+    with-bounds-requires-13
     set-requires-7
-    with-room-requires-14
+    with-bounds-requires-14
     set-requires-8
-    with-room-requires-15
+    with-bounds-requires-15
     erase-first-requires
-    with-room-requires-16
+    with-bounds-requires-16
     set-requires-9
-    with-room-requires-17
+    with-bounds-requires-17
     set-requires-10
-    with-room-requires-18
+    with-bounds-requires-18
     update-requires
-    with-room-requires-19
+    with-bounds-requires-19
     change-broker-requires
-    with-room-requires-20
+    with-bounds-requires-20
     node-at-requires
     erase-node-requires
-    with-room-requires-21
+    with-bounds-requires-21
     same-length
     same-length-2
     returns

@@ -3,7 +3,7 @@ use borrow.Author.Needs.{needs}
 use mathlib.Core.Path.{subst}
 use native.Mathlib.Omega.{arith}
 use Rattle.keys.proofs.Keys.{known-bytes}
-use Rattle.judge.specs.Judge.{loggedIn}
+use Rattle.find.specs.Logged.{loggedIn}
 use Rattle.apply_plan.specs.Plans.{Planned}
 use Rattle.apply_step.proofs.Stepping.{capacity-fits, space, counts-fit, ascends-after, overflowing, too-heavy, becomes-after, holding-after}
 use Rattle.apply_step.proofs.step.Statement.{statement}

@@ -1,12 +1,12 @@
 -- `apply_topics::delete_topic` meets its contract.
 use borrow.Author.Needs.{needs}
-use Rattle.judge.proofs.Fields.{lent-value}
+use Rattle.keys.proofs.Fields.{lent-value}
 use Rattle.apply_topics.proofs.Moved.{deleted}
 use Rattle.apply_topics.proofs.delete_topic.Statement.{statement}
 use Rattle.apply_topics.proofs.delete_topic.Tie as tie
 
-unname-old-requires : tie.Need-unname-old-requires
-unname-old-requires c κs = search needs
+clear-old-named-requires : tie.Need-clear-old-named-requires
+clear-old-named-requires c κs = search needs
 
 value-at-requires : tie.Need-value-at-requires
 value-at-requires c κs = search needs
@@ -28,13 +28,13 @@ same-length c = search needs
 
 returns : tie.Need-returns
 returns c =
-    deleted _ (lent-value _ _ _ _ (c .before .before .before .before .before .value-at .ensures)) (c .before .before .before .before .before .before .before .before .unname-old .ensures) (c .before .before .drop-topic .ensures)
+    deleted _ (lent-value _ _ _ _ (c .before .before .before .before .before .value-at .ensures)) (c .before .before .before .before .before .before .before .before .clear-old-named .ensures) (c .before .before .drop-topic .ensures)
 
 pub delete-topic-spec : {M : Type 1} → statement M
 delete-topic-spec =
     tie.close
     (tie.spec
-    unname-old-requires
+    clear-old-named-requires
     value-at-requires
     sub-drop-topic
     part-drop-topic-start

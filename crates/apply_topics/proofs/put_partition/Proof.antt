@@ -5,7 +5,7 @@ use native.Mathlib.Omega.{arith}
 use lib.Seq.{length-take-le}
 use Rattle.model.specs.Run.{value}
 use Rattle.image_entries.proofs.Records.{headed, run-in}
-use Rattle.judge.proofs.Fields.{lent-value}
+use Rattle.keys.proofs.Fields.{lent-value}
 use Rattle.apply_work.proofs.Made.{record-size}
 use Rattle.apply_topics.proofs.Moved.{counts-few, part-kept, part-moved}
 use Rattle.apply_topics.proofs.put_partition.Statement.{statement}
@@ -23,23 +23,23 @@ is-new-requires c κs = search needs
 value-at-requires : tie.Need-value-at-requires
 value-at-requires c κs = headed _ (c .before .before .before .before .pre .1)
 
-sub-tell : tie.Need-sub-tell
-sub-tell c = search needs
+sub-count-partition : tie.Need-sub-count-partition
+sub-count-partition c = search needs
 
-part-tell-start : tie.Need-part-tell-start
-part-tell-start c = search needs
+part-count-partition-start : tie.Need-part-count-partition-start
+part-count-partition-start c = search needs
 
-part-tell-end : tie.Need-part-tell-end
-part-tell-end c = search needs
+part-count-partition-end : tie.Need-part-count-partition-end
+part-count-partition-end c = search needs
 
 replica-count-requires : tie.Need-replica-count-requires
 replica-count-requires c κs = search needs
 
-tell-requires : tie.Need-tell-requires
-tell-requires c κs = (c .before .before .before .before .before .before .before .before .pre .0, c .before .before .before .before .is-new .ensures .1, counts-few _ (c .before .before .before .before .before .before .before .before .pre .1) (c .before .before .before .before .before .before .before .before .pre .2) (c .before .before .replica-count .ensures), c .before .before .before .before .before .before .before .before .pre .3)
+count-partition-requires : tie.Need-count-partition-requires
+count-partition-requires c κs = (c .before .before .before .before .before .before .before .before .pre .0, c .before .before .before .before .is-new .ensures .1, counts-few _ (c .before .before .before .before .before .before .before .before .pre .1) (c .before .before .before .before .before .before .before .before .pre .2) (c .before .before .replica-count .ensures), c .before .before .before .before .before .before .before .before .pre .3)
 
 put-real-requires : tie.Need-put-real-requires
-put-real-requires c κs = (c .before .before .before .tell .ensures .0, c .before .before .before .before .before .before .before .before .before .before .before .before .pre .1, part-kept _ (c .before .before .before .before .before .before .before .before .before .before .before .before .pre .2), omega (arith, record-size _ (c .before .before .before .before .before .before .before .before .before .before .before .before .pre .1), c .before .before .before .before .before .before .before .before .before .before .before .before .pre .4))
+put-real-requires c κs = (c .before .before .before .count-partition .ensures .0, c .before .before .before .before .before .before .before .before .before .before .before .before .pre .1, part-kept _ (c .before .before .before .before .before .before .before .before .before .before .before .before .pre .2), omega (arith, record-size _ (c .before .before .before .before .before .before .before .before .before .before .before .before .pre .1), c .before .before .before .before .before .before .before .before .before .before .before .before .pre .4))
 
 same-length : tie.Need-same-length
 same-length c = search needs
@@ -47,7 +47,7 @@ same-length c = search needs
 returns : tie.Need-returns
 returns c =
     part-moved _ (c .before .before .before .before .before .before .before .before .before .before .before .before .before .before .before .pre .2) (lent-value _ _ _ _ (c .before .before .before .before .before .before .before .before .before .before .value-at .ensures) ∙ ap (value 1) (run-in _ (c .before .before .before .before .before .before .before .before .before .before .before .before .before .before .before .pre .1))) (c .before .before .before .before .before .before .before .before .before .before .before .is-new .ensures .0) (c .before .before .before .before .before .before .before .before .before .replica-count .ensures)
-    (record-size _ (c .before .before .before .before .before .before .before .before .before .before .before .before .before .before .before .pre .1)) (c .before .before .before .before .before .before .tell .ensures) (c .before .before .put-real .ensures)
+    (record-size _ (c .before .before .before .before .before .before .before .before .before .before .before .before .before .before .before .pre .1)) (c .before .before .before .before .before .before .count-partition .ensures) (c .before .before .put-real .ensures)
 
 pub put-partition-spec : {M : Type 1} → statement M
 put-partition-spec =
@@ -58,10 +58,10 @@ put-partition-spec =
     is-new-requires
     value-at-requires
     replica-count-requires
-    sub-tell
-    part-tell-start
-    part-tell-end
-    tell-requires
+    sub-count-partition
+    part-count-partition-start
+    part-count-partition-end
+    count-partition-requires
     put-real-requires
     same-length
     returns)

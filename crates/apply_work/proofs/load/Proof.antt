@@ -6,7 +6,7 @@ use lib.ListN.{length}
 use Rattle.model.specs.Number.{AreBytes}
 use Rattle.keys.proofs.Keys.{known-bytes}
 use Rattle.find.proofs.Ends.{head-fits, used-low, used-high, entries-there}
-use Rattle.apply_work.proofs.Loads.{room-fits, loaded}
+use Rattle.apply_work.proofs.Loads.{bounds-fits, loaded}
 use Rattle.apply_work.proofs.load.Statement.{statement}
 use Rattle.apply_work.proofs.load.Tie as tie
 
@@ -50,7 +50,7 @@ copy-requires : tie.Need-copy-requires
 copy-requires c κs =
     let u = c .before .before .before .before in
     let s = u .before .before .before in
-    room-fits _ (bytes-in (u .before)) (s .pre .0) (u .used-in .ensures .0) (s .args .w .now) (s .pre .1)
+    bounds-fits _ (bytes-in (u .before)) (s .pre .0) (u .used-in .ensures .0) (s .args .w .now) (s .pre .1)
 
 sub-t6 : tie.Need-sub-t6
 sub-t6 c = low (c .before .before .before .before .before .before .before)

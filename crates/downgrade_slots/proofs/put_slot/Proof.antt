@@ -5,7 +5,7 @@ use Prim.Native.Nat.{_+_, _≤_}
 use lib.ListN.{length}
 use Rattle.model.specs.Number.{bytes}
 use Rattle.model.specs.Record.{recordBytes}
-use Rattle.records.specs.Answers.{written}
+use Rattle.records.specs.Answers.{putAt}
 use Rattle.downgrade_slots.specs.Slots.{assigning}
 use Rattle.downgrade_slots.proofs.Records.{slot-none, slot-fits, slot-put}
 use Rattle.downgrade_slots.proofs.put_slot.Statement.{statement}
@@ -46,7 +46,7 @@ returns-2 c =
     let put = c .before .before .put-assignment in
     let said = subst
     (λ v. (put .result ≡ a .at + length (recordBytes (assigning (a .name .now) (a .number .now) v))) ×
-    (put .last .0 ≡ written (a .out .now) (a .at) (recordBytes (assigning (a .name .now) (a .number .now) v))))
+    (put .last .0 ≡ putAt (a .out .now) (a .at) (recordBytes (assigning (a .name .now) (a .number .now) v))))
     (c .before .before .before .before .before .before .put .ensures) (put .ensures) in
     slot-put (a .name .now) (a .number .now) (bytes 8 (a .node .0)) (a .dir .now) (c .before .before .before .before .before .before .before .before .before .same .ensures) (a .out .now) _ (c .before .before .before .before .before .before .before .before .if1 .left) said
 

@@ -1,6 +1,6 @@
 -- `judge::empty_scope` meets its contract: a part is empty where it ends at its start.
 use borrow.Author.Needs.{needs}
-use Rattle.judge.proofs.Fields.{no-scope}
+use Rattle.judge.proofs.Scopes.{no-scope}
 use Rattle.judge.proofs.empty_scope.Statement.{statement}
 use Rattle.judge.proofs.empty_scope.Tie as tie
 

@@ -12,9 +12,11 @@ use Rattle.model.specs.Contents.{key}
 use Rattle.model.specs.Validate.{alone, against}
 use Rattle.model.specs.declared.Kind.the-variants.{Topic, Partition, BrokerRegistration, DeleteTopic, TopicConfig, BrokerConfig, ClientQuota, ProducerIds, UnregisterBroker, KRaftVersion, FeatureLevel, ClientMetricsConfig, FeaturesEpoch, PartitionDirAssignment, PartitionOffsetAdvance, GroupConfig, ControllerRegistration, TopicFreeze, BreakGlassProposal, DeleteBreakGlassProposal, PartitionElr, PartitionRecovery, PartitionUpdate, BrokerRegistrationChange, UnregisterController}
 use Rattle.laws.specs.Refused.{no-kind}
-use Rattle.judge.specs.Judge.{entriesIn, emptyScope}
-use Rattle.judge.proofs.Epochs.{of-node}
-use Rattle.judge.proofs.Logged.{headed, kind-zero, kind-past, value-of, judged, judged-alone, topic-logged, nested-logged}
+use Rattle.entries.specs.Held.{entriesIn}
+use Rattle.judge.specs.Judge.{emptyScope}
+use Rattle.find.proofs.Epochs.{of-node}
+use Rattle.find.proofs.Logged.{headed, kind-zero, kind-past, value-of, topic-logged, nested-logged}
+use Rattle.judge.proofs.Logged.{judged, judged-alone}
 use Rattle.judge.proofs.judge.Statement.{statement}
 use Rattle.judge.proofs.judge.Tie as tie
 

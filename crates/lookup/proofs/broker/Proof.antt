@@ -2,7 +2,7 @@
 use borrow.Author.Needs.{needs}
 use mathlib.Core.Path.{ap}
 use lib.ListN.{length}
-use Rattle.judge.proofs.Queries.{broker-query}
+use Rattle.find.proofs.Queries.{broker-query}
 use Rattle.lookup.proofs.Answers.{broker-no-image, image-is, broker-found}
 use Rattle.lookup.proofs.broker.Statement.{statement}
 use Rattle.lookup.proofs.broker.Tie as tie

@@ -1,7 +1,7 @@
 -- `lookup::topic` meets its contract.
 use borrow.Author.Needs.{needs}
 use mathlib.Core.Path.{sym, _∙_}
-use Rattle.judge.proofs.Queries.{topic-query}
+use Rattle.find.proofs.Queries.{topic-query}
 use Rattle.lookup.proofs.Answers.{topic-no-image, image-is, topic-refused, name-fits, topic-found}
 use Rattle.lookup.proofs.topic.Statement.{statement}
 use Rattle.lookup.proofs.topic.Tie as tie

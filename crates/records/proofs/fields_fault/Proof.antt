@@ -11,18 +11,18 @@ all-rows-requires c κs = search needs
 slice-aggregate-given-faults : tie.Need-slice-aggregate-given-faults
 slice-aggregate-given-faults c = search needs
 
-number-of-requires : tie.Need-number-of-requires
-number-of-requires c κs = search needs
+kind-number-requires : tie.Need-kind-number-requires
+kind-number-requires c κs = search needs
 
 base-of-requires : tie.Need-base-of-requires
 base-of-requires c κs = search needs
 
 given-faults-requires : tie.Need-given-faults-requires
 given-faults-requires c κs =
-    (c .before .before .before .all-rows .ensures, record { shape = _; at = record-base _ (c .before .number-of .ensures) (c .base-of .ensures) })
+    (c .before .before .before .all-rows .ensures, record { shape = _; at = record-base _ (c .before .kind-number .ensures) (c .base-of .ensures) })
 
 returns : tie.Need-returns
-returns c = c .given-faults .ensures ∙ kind-fault _ _ (record-base _ (c .before .before .number-of .ensures) (c .before .base-of .ensures)) _
+returns c = c .given-faults .ensures ∙ kind-fault _ _ (record-base _ (c .before .before .kind-number .ensures) (c .before .base-of .ensures)) _
 
 pub fields-fault-spec : {M : Type 1} → statement M
 fields-fault-spec =
@@ -30,7 +30,7 @@ fields-fault-spec =
     (tie.spec
     all-rows-requires
     slice-aggregate-given-faults
-    number-of-requires
+    kind-number-requires
     base-of-requires
     given-faults-requires
     returns)

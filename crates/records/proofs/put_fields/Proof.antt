@@ -7,7 +7,7 @@ use lib.ListN.{length}
 use Rattle.model.specs.Run.{bytesOf}
 use Rattle.model.specs.Record.{gathered}
 use Rattle.shape_faults.proofs.Gathered.{gatheredFrom}
-use Rattle.records.specs.Answers.{written}
+use Rattle.records.specs.Answers.{putAt}
 use Rattle.records.proofs.Bodies.{Left, length-there, value-there, field-fits, rest-fits, left-after, field-written, all-written}
 use Rattle.records.proofs.put_fields.Statement.{statement}
 use Rattle.records.proofs.put_fields.Tie as tie
@@ -15,7 +15,7 @@ use Rattle.records.proofs.put_fields.Tie as tie
 abbrev Inv-loop : tie.InvT-loop
 Inv-loop out₀ at tags lengths values to₀ start₀ i₀ out to start i =
     (length out ≡ length out₀) × (i ≤ length tags) × Left tags lengths values i start out to
-    × (written out to (bytesOf (gatheredFrom tags lengths values i start)) ≡ written out₀ at (bytesOf (gathered tags lengths values)))
+    × (putAt out to (bytesOf (gatheredFrom tags lengths values i start)) ≡ putAt out₀ at (bytesOf (gathered tags lengths values)))
 
 abbrev μ-loop : tie.MeasureT-loop
 μ-loop out₀ at tags lengths values to₀ start₀ i₀ out to start i = length tags - i

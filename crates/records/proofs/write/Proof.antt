@@ -20,8 +20,8 @@ add-size c = omega (arith, c .body-length .ensures, body-short _ _ _ _ (c .befor
 returns-2 : tie.Need-returns-2
 returns-2 c = write-short _ _ _ _ (c .before .before .before .fields-fault .ensures) (c .before .before .if1 .left) (c .before .body-length .ensures) _ (c .if2 .taken)
 
-number-of-requires : tie.Need-number-of-requires
-number-of-requires c κs = search needs
+kind-number-requires : tie.Need-kind-number-requires
+kind-number-requires c κs = search needs
 
 put-head-requires : tie.Need-put-head-requires
 put-head-requires c κs = search needs
@@ -38,7 +38,7 @@ same-length c = search needs
 
 returns-3 : tie.Need-returns-3
 returns-3 c =
-    write-right _ _ _ _ (c .before .before .before .before .before .before .before .before .before .before .before .before .fields-fault .ensures) (c .before .before .before .before .before .before .before .before .before .before .before .if1 .left) (c .before .before .before .before .before .before .before .before .before .before .body-length .ensures) _ (c .before .before .before .before .before .before .before .before .before .if2 .left) (c .before .before .before .before .before .before .before .number-of .ensures)
+    write-right _ _ _ _ (c .before .before .before .before .before .before .before .before .before .before .before .before .fields-fault .ensures) (c .before .before .before .before .before .before .before .before .before .before .before .if1 .left) (c .before .before .before .before .before .before .before .before .before .before .body-length .ensures) _ (c .before .before .before .before .before .before .before .before .before .if2 .left) (c .before .before .before .before .before .before .before .kind-number .ensures)
     (c .before .before .before .before .before .before .put-head .ensures) (c .before .before .put-fields .ensures)
 
 pub write-spec : {M : Type 1} → statement M
@@ -50,7 +50,7 @@ write-spec =
     body-length-requires
     add-size
     returns-2
-    number-of-requires
+    kind-number-requires
     put-head-requires
     put-fields-requires
     same-length

@@ -7,8 +7,8 @@ use Rattle.model.specs.Number.{AreBytes}
 use Rattle.model.specs.Record.{readOf}
 use Rattle.model.specs.Reply.{accepted}
 use Rattle.keys.proofs.Keys.{known-bytes}
-use Rattle.records.specs.Answers.{replied}
-use Rattle.validate.proofs.Verdicts.{record-length, record-logged}
+use Rattle.model.specs.Answers.{replied}
+use Rattle.find.proofs.Logged.{record-length, record-logged}
 use Rattle.restore.proofs.Restoring.{next-unread, next-refused, next-moved}
 use Rattle.restore.proofs.next_record.Statement.{statement}
 use Rattle.restore.proofs.next_record.Tie as tie

@@ -3,7 +3,7 @@ use mathlib.Core.Path.{sym, ap, _∙_}
 use native.Mathlib.Omega.{arith}
 use borrow.Author.Needs.{needs}
 use lib.Seq.{length-take-le}
-use Rattle.records.specs.Answers.{replied}
+use Rattle.model.specs.Answers.{replied}
 use Rattle.keys.proofs.Keys.{known-bytes}
 use Rattle.restore_copy.proofs.Rebuilds.{image-is, rebuilt}
 use Rattle.restore_copy.proofs.is_snapshot_of.Statement.{statement}

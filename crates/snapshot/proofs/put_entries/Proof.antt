@@ -39,38 +39,38 @@ entry c =
     let n = c .before .before in
     stands _ (bytes-in n) _ (n .before .loop .inv .ahead .entries) (n .next .ensures) (c .start .given .1)
 
-sub-put-shown : tie.Need-sub-put-shown Inv-loop μ-loop
-sub-put-shown c = forward (entry (c .before .before))
+sub-put-returned : tie.Need-sub-put-returned Inv-loop μ-loop
+sub-put-returned c = forward (entry (c .before .before))
 
-part-put-shown-start : tie.Need-part-put-shown-start Inv-loop μ-loop
-part-put-shown-start c = let t = entry (c .before .before) in omega (arith, forward t, inside t)
+part-put-returned-start : tie.Need-part-put-returned-start Inv-loop μ-loop
+part-put-returned-start c = let t = entry (c .before .before) in omega (arith, forward t, inside t)
 
-part-put-shown-end : tie.Need-part-put-shown-end Inv-loop μ-loop
-part-put-shown-end c = let t = entry (c .before .before) in omega (arith, forward t, inside t)
+part-put-returned-end : tie.Need-part-put-returned-end Inv-loop μ-loop
+part-put-returned-end c = let t = entry (c .before .before) in omega (arith, forward t, inside t)
 
-put-shown-requires : tie.Need-put-shown-requires Inv-loop μ-loop
-put-shown-requires c κs = (here-entire (entry (c .before .before .before)), entry-fits (c .before .before .before .before .before .before .loop .inv) (entry (c .before .before .before)))
+put-returned-requires : tie.Need-put-returned-requires Inv-loop μ-loop
+put-returned-requires c κs = (here-entire (entry (c .before .before .before)), entry-fits (c .before .before .before .before .before .before .loop .inv) (entry (c .before .before .before)))
 
-sub-shown-size : tie.Need-sub-shown-size Inv-loop μ-loop
-sub-shown-size c = forward (entry (c .before .before .before .before .before .before))
+sub-returned-size : tie.Need-sub-returned-size Inv-loop μ-loop
+sub-returned-size c = forward (entry (c .before .before .before .before .before .before))
 
-part-shown-size-start : tie.Need-part-shown-size-start Inv-loop μ-loop
-part-shown-size-start c = let t = entry (c .before .before .before .before .before .before) in omega (arith, forward t, inside t)
+part-returned-size-start : tie.Need-part-returned-size-start Inv-loop μ-loop
+part-returned-size-start c = let t = entry (c .before .before .before .before .before .before) in omega (arith, forward t, inside t)
 
-part-shown-size-end : tie.Need-part-shown-size-end Inv-loop μ-loop
-part-shown-size-end c = let t = entry (c .before .before .before .before .before .before) in omega (arith, forward t, inside t)
+part-returned-size-end : tie.Need-part-returned-size-end Inv-loop μ-loop
+part-returned-size-end c = let t = entry (c .before .before .before .before .before .before) in omega (arith, forward t, inside t)
 
-shown-size-requires : tie.Need-shown-size-requires Inv-loop μ-loop
-shown-size-requires c κs = here-entire (entry (c .before .before .before .before .before .before .before))
+returned-size-requires : tie.Need-returned-size-requires Inv-loop μ-loop
+returned-size-requires c κs = here-entire (entry (c .before .before .before .before .before .before .before))
 
 add-n : tie.Need-add-n Inv-loop μ-loop
-add-n c = omega (arith, entry-fits (c .before .before .before .before .before .before .before .before .before .before .before .loop .inv) (entry (c .before .before .before .before .before .before .before .before)), c .shown-size .ensures, grown-length (c .before .before .before .before .before .before .before .before .before .before .before .loop .inv .grows))
+add-n c = omega (arith, entry-fits (c .before .before .before .before .before .before .before .before .before .before .before .loop .inv) (entry (c .before .before .before .before .before .before .before .before)), c .returned-size .ensures, grown-length (c .before .before .before .before .before .before .before .before .before .before .before .loop .inv .grows))
 
 loop-less : tie.Need-loop-less Inv-loop μ-loop
 loop-less c = turn-falls _ _ _ _ _ (entry (c .before .before .before .before .before .before .before .before))
 
 loop-again : tie.Need-loop-again Inv-loop μ-loop
-loop-again c = write-turn (c .before .before .before .before .before .before .before .before .before .before .before .loop .inv) (entry (c .before .before .before .before .before .before .before .before)) (c .before .before .before .before .put-shown .ensures) (c .shown-size .ensures)
+loop-again c = write-turn (c .before .before .before .before .before .before .before .before .before .before .before .loop .inv) (entry (c .before .before .before .before .before .before .before .before)) (c .before .before .before .before .put-returned .ensures) (c .returned-size .ensures)
 
 enum-told : tie.Need-enum-told Inv-loop μ-loop
 enum-told c = search needs
@@ -99,14 +99,14 @@ put-entries-spec =
     loop-holds
     next-requires
     enum-known-start
-    sub-put-shown
-    part-put-shown-start
-    part-put-shown-end
-    put-shown-requires
-    sub-shown-size
-    part-shown-size-start
-    part-shown-size-end
-    shown-size-requires
+    sub-put-returned
+    part-put-returned-start
+    part-put-returned-end
+    put-returned-requires
+    sub-returned-size
+    part-returned-size-start
+    part-returned-size-end
+    returned-size-requires
     add-n
     loop-less
     loop-again

@@ -2,7 +2,7 @@
 use mathlib.Core.Path.{sym, ap, _∙_}
 use lib.Seq.{length-take-le}
 use borrow.Author.Needs.{needs}
-use Rattle.records.specs.Answers.{replied}
+use Rattle.model.specs.Answers.{replied}
 use Rattle.snapshot.proofs.Shots.{written-fits}
 use Rattle.steps.proofs.Moves.{cut-taken, cut-refused}
 use Rattle.steps.proofs.cut.Statement.{statement}

@@ -3,9 +3,10 @@ use borrow.Author.Needs.{needs}
 use native.Mathlib.Omega.{arith}
 use mathlib.Core.Path.{sym, ap, _∙_}
 use Rattle.keys.proofs.Keys.{known-bytes}
-use Rattle.records.specs.Answers.{replied}
+use Rattle.model.specs.Answers.{replied}
 use Rattle.find.proofs.Lent.{lent-entries}
-use Rattle.validate.proofs.Verdicts.{record-length, record-logged, no-image, image-is, read-refused, judged}
+use Rattle.find.proofs.Logged.{record-length, record-logged}
+use Rattle.validate.proofs.Verdicts.{no-image, image-is, read-refused, judged}
 use Rattle.validate.proofs.validate.Statement.{statement}
 use Rattle.validate.proofs.validate.Tie as tie
 

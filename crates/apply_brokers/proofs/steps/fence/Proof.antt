@@ -6,8 +6,8 @@ use Rattle.apply_brokers.proofs.Fields.{fencing-width, fenced-suits, un
 use Rattle.apply_brokers.proofs.steps.fence.Statement.{statement}
 use Rattle.apply_brokers.proofs.steps.fence.Tie as tie
 
-number-of-requires : tie.Need-number-of-requires
-number-of-requires c κs = (c .before .before .pre .1 .is, omega arith, fencing-width _ (c .before .before .pre .1))
+value-number-requires : tie.Need-value-number-requires
+value-number-requires c κs = (c .before .before .pre .1 .is, omega arith, fencing-width _ (c .before .before .pre .1))
 
 slice-aggregate-replace : tie.Need-slice-aggregate-replace
 slice-aggregate-replace c = search needs
@@ -19,10 +19,10 @@ same-length : tie.Need-same-length
 same-length c = search needs
 
 returns : tie.Need-returns
-returns c = unfenced _ (c .before .before .before .before .before .before .number-of .ensures) _ (c .before .before .before .before .before .if1 .taken) (c .before .before .replace .ensures)
+returns c = unfenced _ (c .before .before .before .before .before .before .value-number .ensures) _ (c .before .before .before .before .before .if1 .taken) (c .before .before .replace .ensures)
 
 returns-2 : tie.Need-returns-2
-returns-2 c = still-fenced _ (c .before .before .number-of .ensures) _ (c .if2 .taken) (c .before .before .before .before .before .pre .0)
+returns-2 c = still-fenced _ (c .before .before .value-number .ensures) _ (c .if2 .taken) (c .before .before .before .before .before .pre .0)
 
 slice-aggregate-replace-2 : tie.Need-slice-aggregate-replace-2
 slice-aggregate-replace-2 c = search needs
@@ -34,13 +34,13 @@ same-length-2 : tie.Need-same-length-2
 same-length-2 c = search needs
 
 returns-3 : tie.Need-returns-3
-returns-3 c = fenced _ (c .before .before .before .before .before .before .before .number-of .ensures) _ (c .before .before .before .before .before .before .if1 .left) (c .before .before .before .before .before .if2 .left) (c .before .before .replace2 .ensures)
+returns-3 c = fenced _ (c .before .before .before .before .before .before .before .value-number .ensures) _ (c .before .before .before .before .before .before .if1 .left) (c .before .before .before .before .before .if2 .left) (c .before .before .replace2 .ensures)
 
 pub fence-spec : {M : Type 1} → statement M
 fence-spec =
     tie.close
     (tie.spec
-    number-of-requires
+    value-number-requires
     slice-aggregate-replace
     replace-requires
     same-length

@@ -6,8 +6,8 @@ use Rattle.apply_brokers.proofs.Fields.{shut-width, shut-suits, shut-do
 use Rattle.apply_brokers.proofs.steps.shut.Statement.{statement}
 use Rattle.apply_brokers.proofs.steps.shut.Tie as tie
 
-number-of-requires : tie.Need-number-of-requires
-number-of-requires c κs = (c .before .before .pre .1 .is, omega arith, shut-width _ (c .before .before .pre .1))
+value-number-requires : tie.Need-value-number-requires
+value-number-requires c κs = (c .before .before .pre .1 .is, omega arith, shut-width _ (c .before .before .pre .1))
 
 slice-aggregate-replace : tie.Need-slice-aggregate-replace
 slice-aggregate-replace c = search needs
@@ -19,16 +19,16 @@ same-length : tie.Need-same-length
 same-length c = search needs
 
 returns : tie.Need-returns
-returns c = shut-down _ (c .before .before .before .before .before .before .number-of .ensures) _ (c .before .before .before .before .before .if1 .taken) (c .before .before .replace .ensures)
+returns c = shut-down _ (c .before .before .before .before .before .before .value-number .ensures) _ (c .before .before .before .before .before .if1 .taken) (c .before .before .replace .ensures)
 
 returns-2 : tie.Need-returns-2
-returns-2 c = still-up _ (c .before .number-of .ensures) _ (c .if1 .left) (c .before .before .before .before .pre .0)
+returns-2 c = still-up _ (c .before .value-number .ensures) _ (c .if1 .left) (c .before .before .before .before .pre .0)
 
 pub shut-spec : {M : Type 1} → statement M
 shut-spec =
     tie.close
     (tie.spec
-    number-of-requires
+    value-number-requires
     slice-aggregate-replace
     replace-requires
     same-length

@@ -28,8 +28,8 @@ returns c = (refl, sym (c .before .overflows .ensures) ∙ c .if1 .taken)
 advance-requires : tie.Need-advance-requires
 advance-requires c κs = search needs
 
-with-room-requires : tie.Need-with-room-requires
-with-room-requires c κs = search needs
+with-bounds-requires : tie.Need-with-bounds-requires
+with-bounds-requires c κs = search needs
 
 same-length-2 : tie.Need-same-length-2
 same-length-2 c = search needs
@@ -40,7 +40,7 @@ same-length-3 c = search needs
 returns-2 : tie.Need-returns-2
 returns-2 c =
     let start = c .before .before .before .before .before .before .before .before .before .before .before .before .before .before .before in
-    subst (Added (recordIn (start .args .rec .now) .run) (start .args .w .now) (start .args .state) (c .before .before .before .before .before .advance .last .0)) (sym (c .with-room .ensures))
+    subst (Added (recordIn (start .args .rec .now) .run) (start .args .w .now) (start .args .state) (c .before .before .before .before .before .advance .last .0)) (sym (c .with-bounds .ensures))
     (sym (c .before .before .before .before .before .before .before .before .before .overflows .ensures) ∙ c .before .before .before .before .before .before .before .before .if1 .left, c .before .before .before .before .before .advance .ensures, refl)
 
 pub add-offset-spec : {M : Type 1} → statement M
@@ -53,7 +53,7 @@ add-offset-spec =
     same-length
     returns
     advance-requires
-    with-room-requires
+    with-bounds-requires
     same-length-2
     same-length-3
     returns-2)

@@ -6,8 +6,8 @@ use lib.ListN.{take}
 use lib.Seq.{length-take-le}
 use Rattle.laws.specs.Numbers.{length-bytes}
 use Rattle.image_entries.proofs.Records.{headed}
-use Rattle.judge.proofs.Queries.{broker-query}
-use Rattle.judge.proofs.Epochs.{of-node}
+use Rattle.find.proofs.Queries.{broker-query}
+use Rattle.find.proofs.Epochs.{of-node}
 use Rattle.apply_plan.proofs.Arms.{node-wide, unregistered, not-registered}
 use Rattle.apply_plan.proofs.tests.unregister.Statement.{statement}
 use Rattle.apply_plan.proofs.tests.unregister.Tie as tie
@@ -36,7 +36,7 @@ returns : tie.Need-returns
 returns c =
     let start = c .before .before .before .before .before .before .before .before .before .before in
     let node = c .before .before .before .before .before .before .before .node-at .ensures in
-    let tested = c .before .before .before .before .before .at-epoch .ensures ∙ of-node (take (start .args .room .mid) (start .args .w .now)) (start .args .rec .now) node in
+    let tested = c .before .before .before .before .before .at-epoch .ensures ∙ of-node (take (start .args .bounds .mid) (start .args .w .now)) (start .args .rec .now) node in
     unregistered _ (start .pre .1) (start .pre .2) _ tested (c .before .before .before .before .if1 .taken) node (c .before .before .erase-node .ensures)
 
 same-length-2 : tie.Need-same-length-2
@@ -46,7 +46,7 @@ returns-2 : tie.Need-returns-2
 returns-2 c =
     let start = c .before .before .before .before .before .before in
     let node = c .before .before .before .node-at .ensures in
-    let tested = c .before .at-epoch .ensures ∙ of-node (take (start .args .room .mid) (start .args .w .now)) (start .args .rec .now) node in
+    let tested = c .before .at-epoch .ensures ∙ of-node (take (start .args .bounds .mid) (start .args .w .now)) (start .args .rec .now) node in
     not-registered _ (start .pre .1) (start .pre .2) _ tested (c .if1 .left) (start .pre .0)
 
 pub unregister-spec : {M : Type 1} → statement M

@@ -3,7 +3,7 @@ use borrow.Author.Needs.{needs}
 use mathlib.Core.Path.{sym, _∙_}
 use native.Mathlib.Omega.{arith}
 use Rattle.keys.proofs.Keys.{known-bytes}
-use Rattle.judge.proofs.Queries.{topic-query}
+use Rattle.find.proofs.Queries.{topic-query}
 use Rattle.apply_topics.proofs.Olds.{no-old, old-is, old-headed, old-id, old-count, old-found}
 use Rattle.apply_topics.proofs.old.old_topic.Statement.{statement}
 use Rattle.apply_topics.proofs.old.old_topic.Tie as tie
@@ -30,24 +30,24 @@ copy-value-requires : tie.Need-copy-value-requires
 copy-value-requires c κs =
     (old-headed _ _ (c .before .before .before .find .ensures) (known-bytes (c .before .before .before .before .before .before .before .before .args .s .now) (λ i. omega (arith, c .before .before .before .before .before .before .before .shared-slice-known .given i))) (c .before .before .before .before .before .before .before .before .pre .0) (c .before .before .if1 .left), old-id _ _ (c .before .before .before .find .ensures) (known-bytes (c .before .before .before .before .before .before .before .before .args .s .now) (λ i. omega (arith, c .before .before .before .before .before .before .before .shared-slice-known .given i))) (c .before .before .before .before .before .before .before .before .pre .0) (c .before .before .if1 .left) ∙ sym (c .before .before .before .before .before .before .before .before .pre .2))
 
-sub-number-of : tie.Need-sub-number-of
-sub-number-of c = search needs
+sub-value-number : tie.Need-sub-value-number
+sub-value-number c = search needs
 
-part-number-of-start : tie.Need-part-number-of-start
-part-number-of-start c = search needs
+part-value-number-start : tie.Need-part-value-number-start
+part-value-number-start c = search needs
 
-part-number-of-end : tie.Need-part-number-of-end
-part-number-of-end c = search needs
+part-value-number-end : tie.Need-part-value-number-end
+part-value-number-end c = search needs
 
-number-of-requires : tie.Need-number-of-requires
-number-of-requires c κs =
+value-number-requires : tie.Need-value-number-requires
+value-number-requires c κs =
     (old-is _ _ (c .before .before .before .before .before .before .before .find .ensures) (known-bytes (c .before .before .before .before .before .before .before .before .before .before .before .before .args .s .now) (λ i. omega (arith, c .before .before .before .before .before .before .before .before .before .before .before .shared-slice-known .given i))) (c .before .before .before .before .before .before .before .before .before .before .before .before .pre .0) (c .before .before .before .before .before .before .if1 .left), omega arith, old-count _ _ (c .before .before .before .before .before .before .before .find .ensures) (known-bytes (c .before .before .before .before .before .before .before .before .before .before .before .before .args .s .now) (λ i. omega (arith, c .before .before .before .before .before .before .before .before .before .before .before .shared-slice-known .given i))) (c .before .before .before .before .before .before .before .before .before .before .before .before .pre .0) (c .before .before .before .before .before .before .if1 .left))
 
 same-length : tie.Need-same-length
 same-length c = search needs
 
 returns-2 : tie.Need-returns-2
-returns-2 c = old-found _ _ (c .before .before .before .before .before .before .before .before .find .ensures) (known-bytes (c .before .before .before .before .before .before .before .before .before .before .before .before .before .args .s .now) (λ i. omega (arith, c .before .before .before .before .before .before .before .before .before .before .before .before .shared-slice-known .given i))) (c .before .before .before .before .before .before .before .before .before .before .before .before .before .pre .0) (c .before .before .before .before .before .before .before .if1 .left) (c .number-of .ensures) (c .before .before .before .before .copy-value .ensures)
+returns-2 c = old-found _ _ (c .before .before .before .before .before .before .before .before .find .ensures) (known-bytes (c .before .before .before .before .before .before .before .before .before .before .before .before .before .args .s .now) (λ i. omega (arith, c .before .before .before .before .before .before .before .before .before .before .before .before .shared-slice-known .given i))) (c .before .before .before .before .before .before .before .before .before .before .before .before .before .pre .0) (c .before .before .before .before .before .before .before .if1 .left) (c .value-number .ensures) (c .before .before .before .before .copy-value .ensures)
 
 pub old-topic-spec : {M : Type 1} → statement M
 old-topic-spec =
@@ -60,9 +60,9 @@ old-topic-spec =
     part-copy-value-start
     part-copy-value-end
     copy-value-requires
-    sub-number-of
-    part-number-of-start
-    part-number-of-end
-    number-of-requires
+    sub-value-number
+    part-value-number-start
+    part-value-number-end
+    value-number-requires
     same-length
     returns-2)

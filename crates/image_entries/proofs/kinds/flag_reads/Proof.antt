@@ -15,12 +15,12 @@ shared-slice-read-if1 c = omega (arith, headed _ (c .before .before .pre))
 returns : tie.Need-returns
 returns c = no-flag _ (c .before .before .before .pre) (c .if1 .taken)
 
-number-of-requires : tie.Need-number-of-requires
+value-number-requires : tie.Need-value-number-requires
 unfolding rowsOf shapeOf kindNumber
-number-of-requires c κs = let i = c .before .before .before .pre in (i, omega arith, value-is _ i Topic (c .if1 .left) 5 refl refl)
+value-number-requires c κs = let i = c .before .before .before .pre in (i, omega arith, value-is _ i Topic (c .if1 .left) 5 refl refl)
 
 returns-2 : tie.Need-returns-2
-returns-2 c = flag-told _ (c .before .before .before .before .pre) (c .before .if1 .left) _ (c .number-of .ensures)
+returns-2 c = flag-told _ (c .before .before .before .before .pre) (c .before .if1 .left) _ (c .value-number .ensures)
 
 pub flag-reads-spec : {M : Type 1} → statement M
-flag-reads-spec = tie.close (tie.spec shared-slice-read-if1 returns number-of-requires returns-2)
+flag-reads-spec = tie.close (tie.spec shared-slice-read-if1 returns value-number-requires returns-2)

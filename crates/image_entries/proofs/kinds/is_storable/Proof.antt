@@ -32,16 +32,16 @@ has-requires-3 c κs = search needs
 types-in-order-requires : tie.Need-types-in-order-requires
 types-in-order-requires c κs = search needs
 
-number-of-requires : tie.Need-number-of-requires
+value-number-requires : tie.Need-value-number-requires
 unfolding rowsOf shapeOf kindNumber
-number-of-requires c κs = let i = c .before .before .before .pre in (i, omega arith, value-is _ i ProducerIds (c .match .keys8) 3 refl refl)
+value-number-requires c κs = let i = c .before .before .before .pre in (i, omega arith, value-is _ i ProducerIds (c .match .keys8) 3 refl refl)
 
 is-positive-requires : tie.Need-is-positive-requires
 is-positive-requires c κs = search needs
 
-number-of-requires-2 : tie.Need-number-of-requires-2
+value-number-requires-2 : tie.Need-value-number-requires-2
 unfolding rowsOf shapeOf kindNumber
-number-of-requires-2 c κs = let i = c .before .before .before .pre in (i, omega arith, value-is _ i FeatureLevel (c .match .keys11) 2 refl refl)
+value-number-requires-2 c κs = let i = c .before .before .before .pre in (i, omega arith, value-is _ i FeatureLevel (c .match .keys11) 2 refl refl)
 
 has-requires-4 : tie.Need-has-requires-4
 has-requires-4 c κs = search needs
@@ -49,9 +49,9 @@ has-requires-4 c κs = search needs
 has-requires-5 : tie.Need-has-requires-5
 has-requires-5 c κs = search needs
 
-number-of-requires-3 : tie.Need-number-of-requires-3
+value-number-requires-3 : tie.Need-value-number-requires-3
 unfolding rowsOf shapeOf kindNumber
-number-of-requires-3 c κs = let i = c .before .before .before .pre in (i, omega arith, ap length (value-is _ i TopicFreeze (c .match .keys18) 3 refl refl .only))
+value-number-requires-3 c κs = let i = c .before .before .before .pre in (i, omega arith, ap length (value-is _ i TopicFreeze (c .match .keys18) 3 refl refl .only))
 
 is-empty-requires : tie.Need-is-empty-requires
 is-empty-requires c κs = search needs
@@ -59,9 +59,9 @@ is-empty-requires c κs = search needs
 is-empty-requires-2 : tie.Need-is-empty-requires-2
 is-empty-requires-2 c κs = search needs
 
-number-of-requires-4 : tie.Need-number-of-requires-4
+value-number-requires-4 : tie.Need-value-number-requires-4
 unfolding rowsOf shapeOf kindNumber
-number-of-requires-4 c κs = let i = c .before .before .before .pre in (i, omega arith, ap length (value-is _ i PartitionRecovery (c .match .keys22) 3 refl refl .only))
+value-number-requires-4 c κs = let i = c .before .before .before .pre in (i, omega arith, ap length (value-is _ i PartitionRecovery (c .match .keys22) 3 refl refl .only))
 
 returns : tie.Need-returns
 unfolding storable kindNumber
@@ -102,7 +102,7 @@ returns-8 c =
 returns-9 : tie.Need-returns-9
 unfolding storable kindNumber
 returns-9 c =
-    c .is-positive .ensures ∙ ap (λ x. ltb 0 x && not (isNegative 8 x)) (c .before .number-of .ensures)
+    c .is-positive .ensures ∙ ap (λ x. ltb 0 x && not (isNegative 8 x)) (c .before .value-number .ensures)
     ∙ by-kind _ (c .before .before .before .before .before .pre) ProducerIds (c .before .before .match .keys8)
 
 returns-10 : tie.Need-returns-10
@@ -116,7 +116,7 @@ returns-11 c = by-kind _ (c .before .before .before .pre) KRaftVersion (c .match
 returns-12 : tie.Need-returns-12
 unfolding storable kindNumber
 returns-12 c =
-    ap (λ x. not (eqb x 0)) (c .number-of2 .ensures)
+    ap (λ x. not (eqb x 0)) (c .value-number2 .ensures)
     ∙ by-kind _ (c .before .before .before .before .pre) FeatureLevel (c .before .match .keys11)
 
 returns-13 : tie.Need-returns-13
@@ -145,7 +145,7 @@ returns-18 c = by-kind _ (c .before .before .before .pre) ControllerRegistration
 
 returns-19 : tie.Need-returns-19
 unfolding storable kindNumber
-returns-19 c = ap (λ x. eqb x 1) (c .number-of3 .ensures) ∙ by-kind _ (c .before .before .before .before .pre) TopicFreeze (c .before .match .keys18)
+returns-19 c = ap (λ x. eqb x 1) (c .value-number3 .ensures) ∙ by-kind _ (c .before .before .before .before .pre) TopicFreeze (c .before .match .keys18)
 
 returns-20 : tie.Need-returns-20
 unfolding storable kindNumber
@@ -170,7 +170,7 @@ returns-23 c =
 returns-24 : tie.Need-returns-24
 unfolding storable kindNumber
 returns-24 c =
-    ap (λ x. not (eqb x 0)) (c .number-of4 .ensures)
+    ap (λ x. not (eqb x 0)) (c .value-number4 .ensures)
     ∙ by-kind _ (c .before .before .before .before .pre) PartitionRecovery (c .before .match .keys22)
 
 returns-25 : tie.Need-returns-25
@@ -200,15 +200,15 @@ is-storable-spec =
     has-requires-2
     has-requires-3
     types-in-order-requires
-    number-of-requires
+    value-number-requires
     is-positive-requires
-    number-of-requires-2
+    value-number-requires-2
     has-requires-4
     has-requires-5
-    number-of-requires-3
+    value-number-requires-3
     is-empty-requires
     is-empty-requires-2
-    number-of-requires-4
+    value-number-requires-4
     returns
     returns-2
     returns-3

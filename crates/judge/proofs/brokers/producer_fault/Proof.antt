@@ -1,7 +1,8 @@
 -- `brokers::producer_fault` meets its contract: the next id first, then the broker.
 use borrow.Author.Needs.{needs}
 use mathlib.Core.Path.{_∙_}
-use Rattle.judge.proofs.Epochs.{of-node, not-above, above}
+use Rattle.find.proofs.Epochs.{of-node}
+use Rattle.judge.proofs.Epochs.{not-above, above}
 use Rattle.judge.proofs.brokers.producer_fault.Statement.{statement}
 use Rattle.judge.proofs.brokers.producer_fault.Tie as tie
 

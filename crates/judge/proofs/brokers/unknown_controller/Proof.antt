@@ -8,9 +8,9 @@ use Rattle.model.specs.Map.{get}
 use Rattle.model.specs.Contents.{key}
 use Rattle.laws.specs.Numbers.{length-bytes}
 use Rattle.keys.proofs.Keys.{known-bytes}
-use Rattle.judge.specs.Judge.{entriesIn}
-use Rattle.judge.proofs.Queries.{controller-query, controller-key}
-use Rattle.judge.proofs.Held.{is-held}
+use Rattle.entries.specs.Held.{entriesIn}
+use Rattle.find.proofs.Queries.{controller-query, controller-key}
+use Rattle.find.proofs.Held.{is-held}
 use Rattle.judge.proofs.brokers.unknown_controller.Statement.{statement}
 use Rattle.judge.proofs.brokers.unknown_controller.Tie as tie
 

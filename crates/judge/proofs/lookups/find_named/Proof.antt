@@ -1,8 +1,8 @@
 -- `lookups::find_named` meets its contract: the first field is lent, and sought.
 use borrow.Author.Needs.{needs}
 use mathlib.Core.Path.{refl}
-use Rattle.judge.proofs.Fields.{lent-value}
-use Rattle.judge.proofs.Queries.{lent-query, lent-place}
+use Rattle.keys.proofs.Fields.{lent-value}
+use Rattle.find.proofs.Queries.{lent-query, lent-place}
 use Rattle.judge.proofs.lookups.find_named.Statement.{statement}
 use Rattle.judge.proofs.lookups.find_named.Tie as tie
 

@@ -2,7 +2,7 @@
 use borrow.Author.Needs.{needs}
 use native.Mathlib.Omega.{arith}
 use Rattle.keys.proofs.Keys.{known-bytes}
-use Rattle.judge.proofs.Held.{is-held}
+use Rattle.find.proofs.Held.{is-held}
 use Rattle.judge.proofs.lookups.is_stored.Statement.{statement}
 use Rattle.judge.proofs.lookups.is_stored.Tie as tie
 

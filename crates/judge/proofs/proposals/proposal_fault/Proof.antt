@@ -3,7 +3,7 @@ use borrow.Author.Needs.{needs}
 use native.Mathlib.Omega.{arith}
 use Rattle.model.specs.Number.{AreBytes}
 use Rattle.keys.proofs.Keys.{known-bytes}
-use Rattle.judge.proofs.Queries.{proposal-query}
+use Rattle.find.proofs.Queries.{proposal-query}
 use Rattle.judge.proofs.Settled.{no-proposal, proposal-headed, time-width, flag-width, proposal-told}
 use Rattle.judge.proofs.proposals.proposal_fault.Statement.{statement}
 use Rattle.judge.proofs.proposals.proposal_fault.Tie as tie

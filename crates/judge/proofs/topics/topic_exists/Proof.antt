@@ -3,7 +3,7 @@ use borrow.Author.Needs.{needs}
 use native.Mathlib.Omega.{arith}
 use Rattle.model.specs.Number.{AreBytes}
 use Rattle.keys.proofs.Keys.{known-bytes}
-use Rattle.judge.proofs.Queries.{topic-query}
+use Rattle.find.proofs.Queries.{topic-query}
 use Rattle.judge.proofs.Replaced.{no-topic, held-fields, replaced}
 use Rattle.judge.proofs.topics.topic_exists.Statement.{statement}
 use Rattle.judge.proofs.topics.topic_exists.Tie as tie

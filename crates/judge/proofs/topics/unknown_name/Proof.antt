@@ -1,7 +1,7 @@
 -- `topics::unknown_name` meets its contract.
 use borrow.Author.Needs.{needs}
 use mathlib.Core.Path.{refl}
-use Rattle.judge.proofs.Queries.{topic-query, topic-key, unless-there}
+use Rattle.find.proofs.Queries.{topic-query, topic-key, unless-there}
 use Rattle.judge.proofs.topics.unknown_name.Statement.{statement}
 use Rattle.judge.proofs.topics.unknown_name.Tie as tie
 

@@ -4,8 +4,8 @@ use native.Mathlib.Omega.{arith}
 use Prim.Native.Nat.{_+_, _≤_}
 use lib.ListN.{length}
 use Rattle.fields.proofs.Took.{within-part}
-use Rattle.judge.proofs.Fields.{lent-nested, none-nested, nested-short}
-use Rattle.judge.proofs.Queries.{unknown-lent}
+use Rattle.keys.proofs.Fields.{lent-nested, none-nested, nested-short}
+use Rattle.find.proofs.Queries.{unknown-lent}
 use Rattle.judge.proofs.topics.unknown_nested.Statement.{statement}
 use Rattle.judge.proofs.topics.unknown_nested.Tie as tie
 

@@ -1,7 +1,7 @@
 -- `topics::unknown_partition` meets its contract: the first two fields are lent, and sought among the partitions.
 use borrow.Author.Needs.{needs}
-use Rattle.judge.proofs.Fields.{lent-value}
-use Rattle.judge.proofs.Queries.{partition-query, partition-key, lent-query, unless-there}
+use Rattle.keys.proofs.Fields.{lent-value}
+use Rattle.find.proofs.Queries.{partition-query, partition-key, lent-query, unless-there}
 use Rattle.judge.proofs.topics.unknown_partition.Statement.{statement}
 use Rattle.judge.proofs.topics.unknown_partition.Tie as tie
 

@@ -1,7 +1,7 @@
 -- `topics::unknown_topic` meets its contract: the first field is lent as the name.
 use borrow.Author.Needs.{needs}
-use Rattle.judge.proofs.Fields.{lent-value, lent-short}
-use Rattle.judge.proofs.Queries.{unknown-lent}
+use Rattle.keys.proofs.Fields.{lent-value, lent-short}
+use Rattle.find.proofs.Queries.{unknown-lent}
 use Rattle.judge.proofs.topics.unknown_topic.Statement.{statement}
 use Rattle.judge.proofs.topics.unknown_topic.Tie as tie
 

@@ -77,8 +77,8 @@ passed-requires c κs =
     let head = filled .before .before .before .before in
     (omega (arith, sized .size-of .ensures, filled .refill .ensures), omega (arith, filled .refill .ensures .1, head .loop .inv .0, head .before .before .before .before .before .before .pre))
 
-tell-requires : tie.Need-tell-requires Inv-loop μ-loop
-tell-requires c κs = search needs
+say-progress-requires : tie.Need-say-progress-requires Inv-loop μ-loop
+say-progress-requires c κs = search needs
 
 loop-less : tie.Need-loop-less Inv-loop μ-loop
 loop-less c =
@@ -137,7 +137,7 @@ run-in-spec =
     part-turn-end
     turn-requires
     passed-requires
-    tell-requires
+    say-progress-requires
     loop-less
     loop-again
     same-length-4

@@ -1,7 +1,7 @@
 -- `tool_parting::snapshots::take_snapshot` meets its contract: by what the snapshot says.
 use mathlib.Core.Path.{sym, ap, _∙_}
 use borrow.Author.Needs.{needs}
-use Rattle.records.specs.Answers.{replied}
+use Rattle.model.specs.Answers.{replied}
 use Rattle.tool_parting.proofs.Taken.{taken, not-taken}
 use Rattle.tool_parting.proofs.snapshots.take_snapshot.Statement.{statement}
 use Rattle.tool_parting.proofs.snapshots.take_snapshot.Tie as tie

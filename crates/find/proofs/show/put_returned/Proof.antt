@@ -1,0 +1,71 @@
+-- `find::put_returned` meets its contract.
+use borrow.Author.Needs.{needs}
+use native.Mathlib.Omega.{arith}
+use Rattle.find.proofs.Puts.{size-topic, size-other, topic-put, other-put}
+use Rattle.find.proofs.show.put_returned.Statement.{statement}
+use Rattle.find.proofs.show.put_returned.Tie as tie
+
+shared-slice-read-if1 : tie.Need-shared-slice-read-if1
+shared-slice-read-if1 c = search needs
+
+sub-end : tie.Need-sub-end
+sub-end c = omega (arith, c .before .before .before .before .pre .0 .flagged (c .if1 .taken), size-topic (c .before .before .before .before .args .e .now) (c .if1 .taken))
+
+sub-put-head : tie.Need-sub-put-head
+sub-put-head c = omega (arith, c .before .before .before .before .before .pre .0 .flagged (c .before .if1 .taken), size-topic (c .before .before .before .before .before .args .e .now) (c .before .if1 .taken))
+
+put-head-requires : tie.Need-put-head-requires
+put-head-requires c κs = omega (arith, c .before .before .before .before .before .pre .0 .flagged (c .before .if1 .taken), size-topic (c .before .before .before .before .before .args .e .now) (c .before .if1 .taken))
+
+add-copy : tie.Need-add-copy
+add-copy c = search needs
+
+sub-copy : tie.Need-sub-copy
+sub-copy c = omega (arith, c .before .before .before .before .before .before .before .before .before .pre .0 .flagged (c .before .before .before .before .before .if1 .taken), size-topic (c .before .before .before .before .before .before .before .before .before .args .e .now) (c .before .before .before .before .before .if1 .taken))
+
+part-copy-start : tie.Need-part-copy-start
+part-copy-start c = omega (arith, c .before .before .before .before .before .before .before .before .before .pre .0 .flagged (c .before .before .before .before .before .if1 .taken), size-topic (c .before .before .before .before .before .before .before .before .before .args .e .now) (c .before .before .before .before .before .if1 .taken))
+
+part-copy-end : tie.Need-part-copy-end
+part-copy-end c = search needs
+
+copy-requires : tie.Need-copy-requires
+copy-requires c κs = omega (arith, c .before .before .before .before .before .before .before .before .before .before .pre .0 .flagged (c .before .before .before .before .before .before .if1 .taken), size-topic (c .before .before .before .before .before .before .before .before .before .before .args .e .now) (c .before .before .before .before .before .before .if1 .taken))
+
+same-length : tie.Need-same-length
+same-length c = search needs
+
+returns : tie.Need-returns
+returns c =
+    let a = c .before .before .before .before .before .before .before .before .before .before .before .before .before in
+    topic-put (a .args .e .now) (c .before .before .before .before .before .before .before .before .before .if1 .taken) (a .args .out .now) (c .before .before .before .before .before .before .before .put-head .last .0) (c .before .before .copy .last .0) (a .args .at) (a .pre .0) (a .pre .1) (c .before .before .before .before .before .before .before .put-head .ensures) (c .before .before .copy .ensures)
+
+copy-requires-2 : tie.Need-copy-requires-2
+copy-requires-2 c κs = omega (arith, size-other (c .before .before .before .before .before .args .e .now) (c .before .if1 .left))
+
+same-length-2 : tie.Need-same-length-2
+same-length-2 c = search needs
+
+returns-2 : tie.Need-returns-2
+returns-2 c =
+    let a = c .before .before .before .before .before .before .before .before .args in
+    other-put (a .e .now) (c .before .before .before .before .if1 .left) (a .out .now) (c .before .before .copy2 .last .0) (a .at) (c .before .before .copy2 .ensures)
+
+pub put-returned-spec : {M : Type 1} → statement M
+put-returned-spec =
+    tie.close
+    (tie.spec
+    shared-slice-read-if1
+    sub-end
+    sub-put-head
+    put-head-requires
+    add-copy
+    sub-copy
+    part-copy-start
+    part-copy-end
+    copy-requires
+    same-length
+    returns
+    copy-requires-2
+    same-length-2
+    returns-2)

@@ -1,0 +1,27 @@
+// What the operations answer with. What 01's number and values are then stands in specs/Answers.
+
+// Bytes used or written, or a refusal's number.
+pub enum Answer {
+    Used(usize),
+    Refused(u8),
+}
+
+// A number, or a refusal's.
+pub enum Value {
+    Is(u64),
+    Refused(u8),
+}
+
+// A rate, none, or a refusal: none and 0 differ.
+pub enum Rated {
+    Rate(u64),
+    None,
+    Refused(u8),
+}
+
+// Done, a refusal, or a record's refusal with the place of its first byte.
+pub enum Restored {
+    Done,
+    Refused(u8),
+    Stopped(u8, usize),
+}
