@@ -6,9 +6,7 @@ use apply_work::Tried;
 use apply_work::load;
 use header::epoch_in;
 use header::kraft_in;
-use image::FIXED_ROOM;
-use image::PRODUCER_SIZE;
-use image::has_producer_ids;
+use image::weight_of;
 use model::refusals::FULL;
 ghost use mathlib.Core.Path.{_≡_};
 ghost use mathlib.Core.Bool.{true};
@@ -29,11 +27,7 @@ fn is_light(w: &[u8], bounds: Bounds, capacity: usize) -> bool
     ensures { λ r. ⌜ IsLight (now (w .entry)) bounds capacity r ⌝ }
 {
     let mid = bounds.mid;
-    let size = FIXED_ROOM + bounds.used;
-    if has_producer_ids(&w[..mid]) {
-        return size <= capacity + PRODUCER_SIZE;
-    }
-    size <= capacity
+    weight_of(&w[..mid], bounds.used) <= capacity
 }
 
 // Makes a record's moves, where the sum of an advance stays in i64 and there is room for what they make. After a refusal the work array is of no use.

@@ -4,6 +4,7 @@ pub mod Records
 pub mod Puts
 pub mod Ends
 pub mod Lent
+pub mod Weighs
 pub mod Logged
 pub mod Queries
 pub mod Held

@@ -5,6 +5,7 @@ mod query;
 mod show;
 
 pub use bounds::reals_end;
+pub use bounds::weight;
 pub use brokers::at_epoch;
 pub use brokers::stored_next;
 use entries::Place;

@@ -3,7 +3,7 @@ use mathlib.Core.Path.{_≡_, refl, sym, ap, _∙_}
 use mathlib.Core.Bool.{Bool, true, false, not, _&&_}
 use Prim.Native.Nat.{ℕ, _+_, _-_, _*_, _≤_}
 use native.Mathlib.Omega.{arith}
-use borrow.Author.Tests.{not-true, leb-true, leb-false}
+use borrow.Author.Tests.{not-true}
 use lib.Dec.{leb}
 use lib.ListN.{length, take, drop}
 use lib.Seq.{slice, length-slice}
@@ -23,16 +23,7 @@ use Rattle.laws_image.specs.Weight.{producerSize, producers}
 use Rattle.laws_image.specs.Exact.{weight-back}
 use Rattle.keys.proofs.Found.{lent-slice}
 use Rattle.image.specs.Test.{entriesSound, producersIn, isLight}
-
--- one bound for another
-pub same-bound : (a b c d : ℕ) → (a ≤ b → c ≤ d) → (c ≤ d → a ≤ b) → leb a b ≡ leb c d
-same-bound a b c d f g = go (leb a b) refl (leb c d) refl
-  where
-    go : (x : Bool) → leb a b ≡ x → (y : Bool) → leb c d ≡ y → x ≡ y
-    go true e true q = refl
-    go true e false q = let h = f (leb-true a b e) in absurd (omega (arith, leb-false c d q))
-    go false e true q = let h = g (leb-true c d q) in absurd (omega (arith, leb-false a b e))
-    go false e false q = refl
+use Rattle.image.proofs.Steps.{producers-held, same-bound}
 
 module _ (b : Bytes) where
   pub head-there : isCapacity (length b) ≡ true → headSize ≤ length b
@@ -75,9 +66,7 @@ module _ (b : Bytes) where
 
         producers-same : producers (contentsOf b .real) ≡ producersIn (realOf (records (itemsIn b)))
         unfolding contentsOf
-        producers-same =
-            let l = realOf (records (itemsIn b)) in
-            ap present (get-map recordKey key entryOf entry-key producerKey l) ∙ present-over entryOf (get recordKey producerKey l)
+        producers-same = producers-held (realOf (records (itemsIn b)))
 
         light-same : every flagReads (records (itemsIn b)) && sound (contentsOf b) ≡ true → leb (weight (contentsOf b)) (length b) ≡ isLight s (length b)
         unfolding isLight

@@ -6,7 +6,7 @@ use mathlib.Core.Option.{Option, none, some}
 use Prim.Native.Nat.{ℕ, _+_, _-_, _*_, _≤_, _<_}
 use native.Mathlib.Omega.{arith}
 use native.Mathlib.Decide.{decLt}
-use borrow.Author.Tests.{not-true, not-false, lt-ltb, le-ltb}
+use borrow.Author.Tests.{not-true, not-false, lt-ltb, le-ltb, leb-true, leb-false}
 use lib.Dec.{leb, ltb}
 use lib.ListN.{length, take, drop, length-drop}
 use lib.Seq.{take-length, length-take-le}
@@ -16,11 +16,13 @@ use Rattle.model.specs.Kind.{kindOf, kinds}
 use Rattle.model.specs.Record.{Rec}
 use Rattle.model.specs.Key.{keyOf, subject, producerKey}
 use Rattle.model.specs.Map.{get, ascending}
-use Rattle.model.specs.Contents.{recordKey, isGroup, namedApart, fixedRoom}
+use Rattle.model.specs.Contents.{key, recordKey, isGroup, namedApart, fixedRoom}
 use Rattle.model.specs.Image.{entryOf, realOf}
 use Rattle.model.specs.declared.Kind.the-variants.{ProducerIds}
-use Rattle.laws.specs.Choice.{present, true-false, and-left, and-right}
-use Rattle.laws_image.specs.Weight.{producerSize}
+use Rattle.laws.specs.Choice.{present, present-over, true-false, and-left, and-right}
+use Rattle.laws.specs.Map.{get-map}
+use Rattle.laws_image.specs.Entries.{entry-key}
+use Rattle.laws_image.specs.Weight.{producerSize, producers}
 use Rattle.keys.specs.Keys.{keyIn, Keyed}
 use Rattle.entries.specs.Entries.{recordsIn, Entries, Placed}
 use Rattle.entries.proofs.Lookups as lookups
@@ -90,8 +92,6 @@ producers-there s areBytes whole at end p = elim (decLt at end) [ yes h ↦ ther
     nothing : end ≤ at → ltb at end ≡ isSome (get recordKey producerKey (recordsIn s))
     nothing h = le-ltb at end h ∙ sym (ap isSome (lookups.absent s producerKey at end place h))
 
--- 4. All entries
-
 some-counts : {A : Type 0} (o : Option A) → isSome o ≡ true → present o ≡ 1
 some-counts none h = absurd (true-false h refl)
 some-counts (some x) h = refl
@@ -99,6 +99,29 @@ some-counts (some x) h = refl
 none-counts : {A : Type 0} (o : Option A) → isSome o ≡ false → present o ≡ 0
 none-counts none h = refl
 none-counts (some x) h = absurd (true-false refl h)
+
+-- by the records as by the entries
+pub producers-held : (l : List Rec) → producers (map entryOf l) ≡ producersIn l
+producers-held l = ap present (get-map recordKey key entryOf entry-key producerKey l) ∙ present-over entryOf (get recordKey producerKey l)
+
+module _ (s : Bytes) (used : ℕ) {there : Bool} (e : there ≡ isSome (get recordKey producerKey (recordsIn s))) where
+  pub weight-less : there ≡ true → fixedRoom + used - producerSize + producerSize * producersIn (recordsIn s) ≡ fixedRoom + used
+  weight-less h = omega (arith, some-counts (get recordKey producerKey (recordsIn s)) (sym e ∙ h))
+
+  pub weight-whole : there ≡ false → fixedRoom + used + producerSize * producersIn (recordsIn s) ≡ fixedRoom + used
+  weight-whole h = omega (arith, none-counts (get recordKey producerKey (recordsIn s)) (sym e ∙ h))
+
+-- one bound for another
+pub same-bound : (a b c d : ℕ) → (a ≤ b → c ≤ d) → (c ≤ d → a ≤ b) → leb a b ≡ leb c d
+same-bound a b c d f g = go (leb a b) refl (leb c d) refl
+  where
+    go : (x : Bool) → leb a b ≡ x → (y : Bool) → leb c d ≡ y → x ≡ y
+    go true e true q = refl
+    go true e false q = let h = f (leb-true a b e) in absurd (omega (arith, leb-false c d q))
+    go false e true q = let h = g (leb-true c d q) in absurd (omega (arith, leb-false a b e))
+    go false e false q = refl
+
+-- 4. All entries
 
 module _ (s : Bytes) (mid capacity : ℕ) (p : Parted s mid) where
   pub front-length : mid ≡ length (take mid s)
@@ -130,22 +153,13 @@ module _ (s : Bytes) (mid capacity : ℕ) (p : Parted s mid) where
       pub groups-unsound : not b ≡ true → false ≡ entriesSound s && isLight s capacity
       groups-unsound h = rw (← whole-sound, ← ea, not-false a ha, ← eb, not-true b h)
 
-      module _ (hb : not b ≡ false) {n : Bool} (en : n ≡ isSome (get recordKey producerKey (recordsIn (take mid s)))) where
+      module _ (hb : not b ≡ false) where
         sound : entriesSound s ≡ true
         sound = sym whole-sound ∙ rw (← ea, not-false a ha, ← eb) (not-false b hb)
 
-        counted : isSome (get recordKey producerKey (realOf (recordsIn s))) ≡ n
-        counted = ap (λ l. isSome (get recordKey producerKey l)) (sym (p .reals)) ∙ sym en
-
-        pub light-producer : n ≡ true → leb (fixedRoom + length s) (capacity + producerSize) ≡ entriesSound s && isLight s capacity
+        pub weight-decides : (n : ℕ) → n + producerSize * producersIn (recordsIn (take mid s)) ≡ fixedRoom + length s
+            → leb n capacity ≡ entriesSound s && isLight s capacity
         unfolding isLight
-        light-producer h =
-            let one : producersIn (realOf (recordsIn s)) ≡ 1 = some-counts (get recordKey producerKey (realOf (recordsIn s))) (counted ∙ h) in
-            rw (sound, one)
-
-        pub light-plain : n ≡ false → leb (fixedRoom + length s) capacity ≡ entriesSound s && isLight s capacity
-        unfolding isLight
-        light-plain h =
-            let none-there : producersIn (realOf (recordsIn s)) ≡ 0 = none-counts (get recordKey producerKey (realOf (recordsIn s))) (counted ∙ h) in
-            let same : capacity ≡ capacity + producerSize * producersIn (realOf (recordsIn s)) = omega (arith, none-there) in
-            rw sound (ap (leb (fixedRoom + length s)) same)
+        weight-decides n e =
+            let same = ap producersIn (p .reals) in
+            rw sound (same-bound n capacity (fixedRoom + length s) (capacity + producerSize * producersIn (realOf (recordsIn s))) (λ h. omega arith) (λ h. omega arith))

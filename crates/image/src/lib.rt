@@ -15,20 +15,21 @@ use image_order::ascends;
 use shapes::all_rows;
 ghost use mathlib.Core.Path.{_≡_};
 ghost use mathlib.Core.Bool.{true, _&&_};
-ghost use Prim.Native.Nat.{_≤_};
+ghost use Prim.Native.Nat.{_+_, _*_, _≤_, _<_};
 ghost use lib.ListN.{length};
 ghost use Rattle.model.specs.Choice.{isSome};
 ghost use Rattle.model.specs.Key.{producerKey};
 ghost use Rattle.model.specs.Map.{get, ascending};
-ghost use Rattle.model.specs.Contents.{recordKey};
+ghost use Rattle.model.specs.Contents.{recordKey, fixedRoom};
 ghost use Rattle.model.specs.Image.{isImage};
+ghost use Rattle.laws_image.specs.Weight.{producerSize};
 ghost use Rattle.entries.specs.Entries.{recordsIn, Entries};
-ghost use Rattle.image.specs.Test.{realsSound, groupsSound, entriesSound, isLight};
+ghost use Rattle.image.specs.Test.{realsSound, groupsSound, entriesSound, producersIn, isLight};
 
 // What the fixed parts of an image weigh, and the bytes of producer ids, which weigh nothing.
-pub const FIXED_ROOM: usize = 128;
+const FIXED_ROOM: usize = 128;
 
-pub const PRODUCER_SIZE: usize = 36;
+const PRODUCER_SIZE: usize = 36;
 
 // Whether the real entries are such as Apply stores: each by itself, their keys, the topics' counts, the named ids.
 fn reals_ok(s: &[u8]) -> bool
@@ -62,12 +63,24 @@ fn groups_ok(s: &[u8], t: &[u8]) -> bool
 }
 
 // Whether producer ids stand among the entries.
-pub fn has_producer_ids(s: &[u8]) -> bool
+fn has_producer_ids(s: &[u8]) -> bool
     requires { ⌜ Entries (now s) ⌝ }
     ensures { λ r. ⌜ r ≡ isSome (get recordKey producerKey (recordsIn (now (s .entry)))) ⌝ }
 {
     let p = seek(s, b"\x08\x00\x00");
     p.at < p.end
+}
+
+// What entries weigh, by the bytes that they take and the real ones among them.
+pub fn weight_of(reals: &[u8], used: usize) -> usize
+    requires { ⌜ Entries (now reals) × (used < 4294967296) ⌝ }
+    ensures { λ r. ⌜ r + producerSize * producersIn (recordsIn (now (reals .entry))) ≡ fixedRoom + used ⌝ }
+{
+    let size = FIXED_ROOM + used;
+    if has_producer_ids(reals) {
+        return size - PRODUCER_SIZE;
+    }
+    size
 }
 
 // Whether entries are such as an image of a capacity holds.
@@ -82,11 +95,7 @@ fn entries_ok(s: &[u8], capacity: usize) -> bool
     if !groups_ok(&s[..mid], &s[mid..]) {
         return false;
     }
-    let room = FIXED_ROOM + s.len();
-    if has_producer_ids(&s[..mid]) {
-        return room <= capacity + PRODUCER_SIZE;
-    }
-    room <= capacity
+    weight_of(&s[..mid], s.len()) <= capacity
 }
 
 // Whether a buffer is an image.

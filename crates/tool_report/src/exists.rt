@@ -1,6 +1,7 @@
 // What exists in an image: its snapshot read record by record.
 use crate::quotas::say_quota;
 use crate::topics::say_topic;
+use image::is_image;
 use model::NodeId;
 use model::answers::Rated;
 use model::answers::Value;
@@ -15,15 +16,14 @@ use tool_words::say_of;
 // The node whose configs are every node's.
 const DEFAULT: u64 = 0xffff_ffff_ffff_ffff;
 
-// What was seen of a snapshot's records: how many of each, the node whose configs came last, the bytes that do not
-// weigh, and whether all that was said was written.
+// What was seen of a snapshot's records: how many of each, the node whose configs came last, and whether all that was
+// said was written.
 struct Seen {
     brokers: u64,
     topics: u64,
     partitions: u64,
     configured: bool,
     node: u64,
-    light: usize,
     written: bool,
 }
 
@@ -91,9 +91,8 @@ fn with_record(image: &[u8], records: &[u8], rec: &[u8], seen: Seen) -> Seen {
         3 => next.brokers = more_by_one(seen.brokers),
         6 => next = with_config(image, rec, seen),
         7 => next.written = say_quota(rec),
-        8 => next.light = rec.len(),
         18 => next.written = say_freeze(rec),
-        0 | 4 | 5 | 9..=17 | 19..=255 => {}
+        0 | 4 | 5 | 8..=17 | 19..=255 => {}
     }
     next
 }
@@ -106,7 +105,6 @@ fn say_entries(image: &[u8], records: &[u8]) -> Seen {
         partitions: 0,
         configured: false,
         node: 0,
-        light: 0,
         written: true,
     };
     let mut at = 0;
@@ -138,21 +136,19 @@ fn say_counts(image: &[u8], seen: Seen) -> bool {
         && say(b"\n")
 }
 
-// How much of the capacity is used: the header's length weighs as 64 more, and producer ids do not.
-fn say_weight(image: &[u8], light: usize) -> bool {
-    if image.len() < header::HEAD_SIZE {
+// How much of the capacity is used.
+fn say_weight(image: &[u8]) -> bool {
+    if !is_image(image) {
         return true;
     }
-    let used = header::used_in(image) + header::HEAD_SIZE;
-    if used < light {
-        return true;
-    }
-    say_of(b"weight: ", (used - light) as u64) && say_of(b" of ", image.len() as u64) && say(b"\n")
+    say_of(b"weight: ", find::weight(image) as u64)
+        && say_of(b" of ", image.len() as u64)
+        && say(b"\n")
 }
 
 // What an image holds.
 pub fn say_all(image: &[u8], out: &mut [u8]) -> bool {
     let n = take_snapshot(image, out);
     let seen = say_entries(image, &out[..n]);
-    seen.written && say_counts(image, seen) && say_weight(image, seen.light)
+    seen.written && say_counts(image, seen) && say_weight(image)
 }

@@ -1,38 +1,30 @@
 -- `apply_step::is_light` meets its contract.
 use borrow.Author.Needs.{needs}
-use mathlib.Core.Path.{sym}
+use mathlib.Core.Path.{sym, ap}
 use native.Mathlib.Omega.{arith}
+use lib.Dec.{leb}
 use lib.Seq.{length-take-le}
 use Rattle.keys.proofs.Keys.{known-bytes}
-use Rattle.apply_step.proofs.Light.{light-producers, light-plainly}
+use Rattle.apply_step.proofs.Light.{weight-is}
 use Rattle.apply_step.proofs.is_light.Statement.{statement}
 use Rattle.apply_step.proofs.is_light.Tie as tie
 
-add-size : tie.Need-add-size
-add-size c = search needs
+slice-aggregate-weight-of : tie.Need-slice-aggregate-weight-of
+slice-aggregate-weight-of c =
+    let good = c .before .before .pre .0 in
+    sym (length-take-le _ _ (omega (arith, good .order, good .fits)))
 
-slice-aggregate-has-producer-ids : tie.Need-slice-aggregate-has-producer-ids
-slice-aggregate-has-producer-ids c = sym (length-take-le _ _ (omega (arith, c .before .before .before .pre .0 .order, c .before .before .before .pre .0 .fits)))
-
-has-producer-ids-requires : tie.Need-has-producer-ids-requires
-has-producer-ids-requires c κs = search needs
-
-add-result : tie.Need-add-result
-add-result c = search needs
+weight-of-requires : tie.Need-weight-of-requires
+weight-of-requires c κs =
+    let start = c .before .before in
+    let good = start .pre .0 in
+    (good .reals, omega (arith, good .fits, start .pre .3))
 
 returns : tie.Need-returns
-returns c = λ f. light-producers _ _ (known-bytes (c .before .before .before .before .before .args .w .now) (λ i. omega (arith, c .before .before .before .before .shared-slice-known .given i))) (c .before .before .before .before .before .pre .0) f (c .before .before .before .before .before .pre .1) _ (c .before .has-producer-ids .ensures) (c .if1 .taken)
-
-returns-2 : tie.Need-returns-2
-returns-2 c = λ f. light-plainly _ _ (known-bytes (c .before .before .before .before .before .args .w .now) (λ i. omega (arith, c .before .before .before .before .shared-slice-known .given i))) (c .before .before .before .before .before .pre .0) f (c .before .before .before .before .before .pre .1) _ (c .before .has-producer-ids .ensures) (c .if1 .left)
+returns c =
+    let start = c .before .before .before in
+    let are = known-bytes (start .args .w .now) (λ i. omega (arith, c .before .before .shared-slice-known .given i)) in
+    λ f. ap (λ n. leb n (start .args .capacity)) (weight-is _ _ are (start .pre .0) f (start .pre .1) _ (c .weight-of .ensures))
 
 pub is-light-spec : {M : Type 1} → statement M
-is-light-spec =
-    tie.close
-    (tie.spec
-    add-size
-    slice-aggregate-has-producer-ids
-    has-producer-ids-requires
-    add-result
-    returns
-    returns-2)
+is-light-spec = tie.close (tie.spec slice-aggregate-weight-of weight-of-requires returns)
