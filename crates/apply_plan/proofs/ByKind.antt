@@ -15,7 +15,8 @@ use Rattle.model.specs.Record.{rec}
 use Rattle.model.specs.Contents.{Entry, storable, isConfig}
 use Rattle.model.specs.Move.{Move, dropM, topicM, partM, deleteM, bumpM, epochM, kraftM, updateMoves, joinOrLeave, onReal, onEmpties, plan}
 use Rattle.model.specs.declared.Kind.{Kind}
-use Rattle.model.specs.declared.Kind.the-variants.{Topic, Partition, BrokerRegistration, TopicConfig, ClientMetricsConfig, GroupConfig, TopicFreeze, PartitionElr, PartitionRecovery, PartitionUpdate, DeleteTopic, BrokerConfig, KRaftVersion, FeatureLevel, FeaturesEpoch, ControllerRegistration, BreakGlassProposal, DeleteBreakGlassProposal, UnregisterController}
+use Rattle.model.specs.declared.Kind.the-variants.{Topic, Partition, BrokerRegistration, TopicConfig, ClientMetricsConfig, GroupConfig, TopicFreeze, PartitionElr, PartitionRecovery, PartitionUpdate}
+use Rattle.model.specs.declared.Kind.the-variants.{DeleteTopic, BrokerConfig, KRaftVersion, FeatureLevel, FeaturesEpoch, ControllerRegistration, BreakGlassProposal, DeleteBreakGlassProposal, UnregisterController}
 use Rattle.laws.specs.Choice.{impossible}
 use Rattle.laws_records.specs.Stored.{fault-stored}
 use Rattle.laws_image.specs.Groups.{Grouped, config}

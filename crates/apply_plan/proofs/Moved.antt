@@ -15,7 +15,8 @@ use Rattle.model.specs.Move.{Move, putM, dropM, directoriesM, setOrDrop, joinOr
 use Rattle.model.specs.Move.{runAt, brokerAt, atEpoch, orDone, storedNext, isAbove, changedBroker, replicas, directories, nodeCount, slotOf}
 use Rattle.model.specs.Move.{filled, assigned, directoryMoves, sortedQuota, onFixed, move, moves, plan, moved}
 use Rattle.model.specs.declared.Kind.{Kind}
-use Rattle.model.specs.declared.Kind.the-variants.{Topic, Partition, BrokerRegistration, DeleteTopic, TopicConfig, BrokerConfig, ClientQuota, ProducerIds, UnregisterBroker, KRaftVersion, FeatureLevel, ClientMetricsConfig, FeaturesEpoch, PartitionDirAssignment, PartitionOffsetAdvance, GroupConfig, ControllerRegistration, TopicFreeze, BreakGlassProposal, DeleteBreakGlassProposal, PartitionElr, PartitionRecovery, PartitionUpdate, BrokerRegistrationChange, UnregisterController}
+use Rattle.model.specs.declared.Kind.the-variants.{Topic, Partition, BrokerRegistration, DeleteTopic, TopicConfig, BrokerConfig, ClientQuota, ProducerIds, UnregisterBroker, KRaftVersion, FeatureLevel, ClientMetricsConfig, FeaturesEpoch}
+use Rattle.model.specs.declared.Kind.the-variants.{PartitionDirAssignment, PartitionOffsetAdvance, GroupConfig, ControllerRegistration, TopicFreeze, BreakGlassProposal, DeleteBreakGlassProposal, PartitionElr, PartitionRecovery, PartitionUpdate, BrokerRegistrationChange, UnregisterController}
 use Rattle.laws.specs.Lists.{All, all-append}
 use Rattle.apply_plan.specs.Fixed.{epochAfter, kraftAfter}
 

@@ -20,7 +20,8 @@ use Rattle.model.specs.Move.{Move, putM, dropM, directoriesM, filled, assigned,
 use Rattle.model.specs.Move.{runAt, brokerAt, atEpoch, orDone, storedNext, isAbove, changedBroker, replicas, directories, nodeCount, slotOf}
 use Rattle.model.specs.Move.{directoryMoves, sortedQuota, offsetSum, sumBytes, storedOffset, plan}
 use Rattle.model.specs.declared.Kind.{Kind}
-use Rattle.model.specs.declared.Kind.the-variants.{Topic, Partition, BrokerRegistration, DeleteTopic, TopicConfig, BrokerConfig, ClientQuota, ProducerIds, UnregisterBroker, KRaftVersion, FeatureLevel, ClientMetricsConfig, FeaturesEpoch, PartitionDirAssignment, PartitionOffsetAdvance, GroupConfig, ControllerRegistration, TopicFreeze, BreakGlassProposal, DeleteBreakGlassProposal, PartitionElr, PartitionRecovery, PartitionUpdate, BrokerRegistrationChange, UnregisterController}
+use Rattle.model.specs.declared.Kind.the-variants.{Topic, Partition, BrokerRegistration, DeleteTopic, TopicConfig, BrokerConfig, ClientQuota, ProducerIds, UnregisterBroker, KRaftVersion, FeatureLevel, ClientMetricsConfig, FeaturesEpoch}
+use Rattle.model.specs.declared.Kind.the-variants.{PartitionDirAssignment, PartitionOffsetAdvance, GroupConfig, ControllerRegistration, TopicFreeze, BreakGlassProposal, DeleteBreakGlassProposal, PartitionElr, PartitionRecovery, PartitionUpdate, BrokerRegistrationChange, UnregisterController}
 use Rattle.laws.specs.Choice.{impossible}
 use Rattle.laws.specs.Lists.{All, all-imp, every-true, all-append}
 use Rattle.laws.specs.Numbers.{number-bound, length-bytes, bytes-are-bytes}

@@ -14,7 +14,8 @@ use Rattle.model.specs.Run.{Run, done, torn, item, runOf, bytesOf}
 use Rattle.model.specs.Kind.{kindNumber}
 use Rattle.model.specs.Shape.{Shape, recordOf, storedTopic, Form, fixed, below, text, mapKey, raw, list, nested, Row, rowsOf, rowAt, Before, start, countBefore, keyBefore, after, runFault, leafFault, valueFault, Source, logged, stored, shapeOf}
 use Rattle.model.specs.declared.Kind.{Kind}
-use Rattle.model.specs.declared.Kind.the-variants.{Topic, Partition, BrokerRegistration, DeleteTopic, TopicConfig, BrokerConfig, ClientQuota, ProducerIds, UnregisterBroker, KRaftVersion, FeatureLevel, ClientMetricsConfig, FeaturesEpoch, PartitionDirAssignment, PartitionOffsetAdvance, GroupConfig, ControllerRegistration, TopicFreeze, BreakGlassProposal, DeleteBreakGlassProposal, PartitionElr, PartitionRecovery, PartitionUpdate, BrokerRegistrationChange, UnregisterController}
+use Rattle.model.specs.declared.Kind.the-variants.{Topic, Partition, BrokerRegistration, DeleteTopic, TopicConfig, BrokerConfig, ClientQuota, ProducerIds, UnregisterBroker, KRaftVersion, FeatureLevel, ClientMetricsConfig, FeaturesEpoch}
+use Rattle.model.specs.declared.Kind.the-variants.{PartitionDirAssignment, PartitionOffsetAdvance, GroupConfig, ControllerRegistration, TopicFreeze, BreakGlassProposal, DeleteBreakGlassProposal, PartitionElr, PartitionRecovery, PartitionUpdate, BrokerRegistrationChange, UnregisterController}
 use Rattle.laws.specs.Choice.{impossible}
 use Rattle.laws_records.specs.Rows.{times, Follow, later, again}
 use Rattle.laws_records.specs.Runs.{length-run, length-item}

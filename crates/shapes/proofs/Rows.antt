@@ -1,7 +1,8 @@
 -- The table gives each shape the rows that `model` has, by computation.
 use mathlib.Core.Path.{_≡_, refl}
 use Rattle.model.specs.Shape.{Shape, recordOf, storedTopic, endpoint, approval, entity, pair, feature, rowsOf}
-use Rattle.model.specs.declared.Kind.the-variants.{Topic, Partition, BrokerRegistration, DeleteTopic, TopicConfig, BrokerConfig, ClientQuota, ProducerIds, UnregisterBroker, KRaftVersion, FeatureLevel, ClientMetricsConfig, FeaturesEpoch, PartitionDirAssignment, PartitionOffsetAdvance, GroupConfig, ControllerRegistration, TopicFreeze, BreakGlassProposal, DeleteBreakGlassProposal, PartitionElr, PartitionRecovery, PartitionUpdate, BrokerRegistrationChange, UnregisterController}
+use Rattle.model.specs.declared.Kind.the-variants.{Topic, Partition, BrokerRegistration, DeleteTopic, TopicConfig, BrokerConfig, ClientQuota, ProducerIds, UnregisterBroker, KRaftVersion, FeatureLevel, ClientMetricsConfig, FeaturesEpoch}
+use Rattle.model.specs.declared.Kind.the-variants.{PartitionDirAssignment, PartitionOffsetAdvance, GroupConfig, ControllerRegistration, TopicFreeze, BreakGlassProposal, DeleteBreakGlassProposal, PartitionElr, PartitionRecovery, PartitionUpdate, BrokerRegistrationChange, UnregisterController}
 use Rattle.shapes.specs.Table as Table
 use Rattle.shapes.specs.Table.{baseOf, rowsFrom}
 

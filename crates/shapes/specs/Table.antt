@@ -9,7 +9,8 @@ use lib.Seq.{slice}
 use Rattle.model.specs.Choice.{given, joined}
 use Rattle.model.specs.Kind.{kindOf}
 use Rattle.model.specs.Shape.{Shape, recordOf, storedTopic, endpoint, approval, entity, pair, feature, Form, fixed, below, text, mapKey, raw, list, nested, Presence, required, optional, upTo, Row, rowsOf, isRequired, Source, shapeOf}
-use Rattle.model.specs.declared.Kind.the-variants.{Topic, Partition, BrokerRegistration, DeleteTopic, TopicConfig, BrokerConfig, ClientQuota, ProducerIds, UnregisterBroker, KRaftVersion, FeatureLevel, ClientMetricsConfig, FeaturesEpoch, PartitionDirAssignment, PartitionOffsetAdvance, GroupConfig, ControllerRegistration, TopicFreeze, BreakGlassProposal, DeleteBreakGlassProposal, PartitionElr, PartitionRecovery, PartitionUpdate, BrokerRegistrationChange, UnregisterController}
+use Rattle.model.specs.declared.Kind.the-variants.{Topic, Partition, BrokerRegistration, DeleteTopic, TopicConfig, BrokerConfig, ClientQuota, ProducerIds, UnregisterBroker, KRaftVersion, FeatureLevel, ClientMetricsConfig, FeaturesEpoch}
+use Rattle.model.specs.declared.Kind.the-variants.{PartitionDirAssignment, PartitionOffsetAdvance, GroupConfig, ControllerRegistration, TopicFreeze, BreakGlassProposal, DeleteBreakGlassProposal, PartitionElr, PartitionRecovery, PartitionUpdate, BrokerRegistrationChange, UnregisterController}
 
 -- where a shape's rows begin
 unfoldable pub baseOf : Shape → ℕ

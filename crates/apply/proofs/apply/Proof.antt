@@ -28,22 +28,50 @@ enum-known-n : tie.Need-enum-known-n
 enum-known-n c = search needs
 
 slice-aggregate-apply-record : tie.Need-slice-aggregate-apply-record
-slice-aggregate-apply-record c = record-length (c .before .before .before .before .before .before .before .before .before .before .before .args .input .now) (known-bytes (c .before .before .before .before .before .before .before .before .before .before .before .args .input .now) (λ i. omega (arith, c .before .before .before .before .before .before .before .before .before .shared-slice-known .given i))) (ap replied (sym (c .before .before .before .n .given .1)) ∙ c .before .before .before .before .before .read .ensures)
+slice-aggregate-apply-record c =
+    let at-n = c .before .before .before in
+    let at-read = at-n .before .before in
+    let known = at-read .before .before .before .before in
+    let start = known .before .before in
+    record-length (start .args .input .now) (known-bytes (start .args .input .now) (λ i. omega (arith, known .shared-slice-known .given i)))
+    (ap replied (sym (at-n .n .given .1)) ∙ at-read .read .ensures)
 
 apply-record-requires : tie.Need-apply-record-requires
-apply-record-requires c κs = (image-is _ (c .before .before .before .before .before .before .before .before .before .before .before .args .input .now) (c .before .before .before .before .before .before .before .is-image .ensures) (c .before .before .before .before .before .before .if1 .left), record-logged (c .before .before .before .before .before .before .before .before .before .before .before .args .input .now) (known-bytes (c .before .before .before .before .before .before .before .before .before .before .before .args .input .now) (λ i. omega (arith, c .before .before .before .before .before .before .before .before .before .shared-slice-known .given i))) (ap replied (sym (c .before .before .before .n .given .1)) ∙ c .before .before .before .before .before .read .ensures))
+apply-record-requires c κs =
+    let at-n = c .before .before .before in
+    let at-read = at-n .before .before in
+    let at-if1 = at-read .before in
+    let at-is-image = at-if1 .before in
+    let known = at-is-image .before .before in
+    let start = known .before .before in (
+      image-is _ (start .args .input .now) (at-is-image .is-image .ensures) (at-if1 .if1 .left),
+      record-logged (start .args .input .now) (known-bytes (start .args .input .now) (λ i. omega (arith, known .shared-slice-known .given i)))
+          (ap replied (sym (at-n .n .given .1)) ∙ at-read .read .ensures),
+    )
 
 same-length-2 : tie.Need-same-length-2
 same-length-2 c = search needs
 
 returns-2 : tie.Need-returns-2
-returns-2 c = unread _ _ (c .before .before .before .before .before .is-image .ensures) (c .before .before .before .before .if1 .left) (ap replied (sym (c .before .number .given .1)) ∙ c .before .before .before .read .ensures)
+returns-2 c =
+    let at-read = c .before .before .before in
+    let at-if1 = at-read .before in
+    let at-is-image = at-if1 .before in
+    unread _ _ (at-is-image .is-image .ensures) (at-if1 .if1 .left) (ap replied (sym (c .before .number .given .1)) ∙ at-read .read .ensures)
 
 same-length-3 : tie.Need-same-length-3
 same-length-3 c = search needs
 
 returns-3 : tie.Need-returns-3
-returns-3 c = applied _ _ (c .before .before .before .before .before .before .before .before .before .before .is-image .ensures) (c .before .before .before .before .before .before .before .before .before .if1 .left) (known-bytes (c .before .before .before .before .before .before .before .before .before .before .before .before .before .before .args .input .now) (λ i. omega (arith, c .before .before .before .before .before .before .before .before .before .before .before .before .shared-slice-known .given i))) (ap replied (sym (c .before .before .before .before .before .before .n .given .1)) ∙ c .before .before .before .before .before .before .before .before .read .ensures) (c .before .before .apply-record .ensures)
+returns-3 c =
+    let at-n = c .before .before .before .before .before .before in
+    let at-read = at-n .before .before in
+    let at-if1 = at-read .before in
+    let at-is-image = at-if1 .before in
+    let known = at-is-image .before .before in
+    let start = known .before .before in
+    applied _ _ (at-is-image .is-image .ensures) (at-if1 .if1 .left) (known-bytes (start .args .input .now) (λ i. omega (arith, known .shared-slice-known .given i)))
+    (ap replied (sym (at-n .n .given .1)) ∙ at-read .read .ensures) (c .before .before .apply-record .ensures)
 
 pub apply-spec : {M : Type 1} → statement M
 apply-spec =

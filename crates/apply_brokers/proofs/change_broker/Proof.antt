@@ -69,10 +69,14 @@ same-length-4 c = search needs
 
 returns-2 : tie.Need-returns-2
 returns-2 c =
-    let start = c .before .before .before .before .before .before .before .before .before .before .before .before .before .before .before .before .before .before .before in
+    let at-change = c .before .before .before .before .before .before .before in
+    let at-if1 = at-change .before .before in
+    let at-copy-broker = at-if1 .before .before .before in
+    let at-node-at = at-copy-broker .before in
+    let start = at-node-at .before .before .before .before .before .before in
     let change : IsChange (start .args .rec .now) = record { is = start .pre .1; kind = start .pre .2 } in
-    let broker = of-node (start .args .rec .now) _ change (c .before .before .before .before .before .before .before .before .before .before .before .before .before .node-at .ensures) _ (c .before .before .before .before .before .before .before .before .before .before .before .before .copy-broker .ensures) in
-    broker-changed _ _ broker (c .before .before .before .before .before .before .before .before .before .if1 .left) (c .before .before .before .before .before .before .before .change .ensures) (c .before .before .set .ensures)
+    let broker = of-node (start .args .rec .now) _ change (at-node-at .node-at .ensures) _ (at-copy-broker .copy-broker .ensures) in
+    broker-changed _ _ broker (at-if1 .if1 .left) (at-change .change .ensures) (c .before .before .set .ensures)
 
 pub change-broker-spec : {M : Type 1} → statement M
 change-broker-spec =

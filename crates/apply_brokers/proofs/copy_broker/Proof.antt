@@ -27,10 +27,22 @@ part-same-value-end : tie.Need-part-same-value-end
 part-same-value-end c = search needs
 
 same-value-requires : tie.Need-same-value-requires
-same-value-requires c κs = (broker-headed _ (c .before .before .before .before .before .before .args .rec .now) _ (c .before .before .find-node .ensures) (known-bytes (c .before .before .before .before .before .before .args .s .now) (λ i. omega (arith, c .before .before .before .before .shared-slice-known .given i))) (c .before .before .before .before .before .before .pre .0) (c .before .if1 .left), headed _ (c .before .before .before .before .before .before .pre .1 .is))
+same-value-requires c κs =
+    let known = c .before .before .before .before in
+    let start = known .before .before in (
+      broker-headed _ (start .args .rec .now) _ (c .before .before .find-node .ensures) (known-bytes (start .args .s .now) (λ i. omega (arith, known .shared-slice-known .given i)))
+          (start .pre .0) (c .before .if1 .left),
+      headed _ (start .pre .1 .is),
+    )
 
 returns-2 : tie.Need-returns-2
-returns-2 c = other-epoch _ _ _ (c .before .before .before .before .before .before .before .before .pre .1) (c .before .before .before .before .find-node .ensures) (known-bytes (c .before .before .before .before .before .before .before .before .args .s .now) (λ i. omega (arith, c .before .before .before .before .before .before .shared-slice-known .given i))) (c .before .before .before .before .before .before .before .before .pre .0) (c .before .before .before .if1 .left) (c .before .same-value .ensures) _ (not-true _ (c .if2 .taken))
+returns-2 c =
+    let at-if1 = c .before .before .before in
+    let at-find-node = at-if1 .before in
+    let known = at-find-node .before .before in
+    let start = known .before .before in
+    other-epoch _ _ _ (start .pre .1) (at-find-node .find-node .ensures) (known-bytes (start .args .s .now) (λ i. omega (arith, known .shared-slice-known .given i)))
+    (start .pre .0) (at-if1 .if1 .left) (c .before .same-value .ensures) _ (not-true _ (c .if2 .taken))
 
 sub-copy-in : tie.Need-sub-copy-in
 sub-copy-in c = search needs
@@ -42,13 +54,29 @@ part-copy-in-end : tie.Need-part-copy-in-end
 part-copy-in-end c = search needs
 
 copy-in-requires : tie.Need-copy-in-requires
-copy-in-requires c κs = entry-fits _ _ _ (c .before .before .before .before .before .before .before .before .before .before .pre .1) (c .before .before .before .before .before .before .find-node .ensures) (known-bytes (c .before .before .before .before .before .before .before .before .before .before .args .s .now) (λ i. omega (arith, c .before .before .before .before .before .before .before .before .shared-slice-known .given i))) (c .before .before .before .before .before .before .before .before .before .before .pre .0) (c .before .before .before .before .before .if1 .left) (c .before .before .before .same-value .ensures) (c .before .before .before .before .before .before .before .before .before .before .args .b .now) (c .before .before .before .before .before .before .before .before .before .before .pre .2)
+copy-in-requires c κs =
+    let at-same-value = c .before .before .before in
+    let at-if1 = at-same-value .before .before in
+    let at-find-node = at-if1 .before in
+    let known = at-find-node .before .before in
+    let start = known .before .before in
+    entry-fits _ _ _ (start .pre .1) (at-find-node .find-node .ensures) (known-bytes (start .args .s .now) (λ i. omega (arith, known .shared-slice-known .given i))) (start .pre .0)
+    (at-if1 .if1 .left) (at-same-value .same-value .ensures) (start .args .b .now) (start .pre .2)
 
 same-length : tie.Need-same-length
 same-length c = search needs
 
 returns-3 : tie.Need-returns-3
-returns-3 c = copied _ _ _ (c .before .before .before .before .before .before .before .before .before .before .before .before .before .pre .1) (c .before .before .before .before .before .before .before .before .before .find-node .ensures) (known-bytes (c .before .before .before .before .before .before .before .before .before .before .before .before .before .args .s .now) (λ i. omega (arith, c .before .before .before .before .before .before .before .before .before .before .before .shared-slice-known .given i))) (c .before .before .before .before .before .before .before .before .before .before .before .before .before .pre .0) (c .before .before .before .before .before .before .before .before .if1 .left) (c .before .before .before .before .before .before .same-value .ensures) (not-false _ (c .before .before .before .before .before .if2 .left)) (c .before .before .before .before .before .before .before .before .before .before .before .before .before .args .b .now) _ (c .before .before .before .before .before .before .before .before .before .before .before .before .before .pre .2) (c .before .before .copy-in .kept .0) (c .before .before .copy-in .ensures)
+returns-3 c =
+    let at-copy-in = c .before .before in
+    let at-if2 = at-copy-in .before .before .before in
+    let at-same-value = at-if2 .before in
+    let at-if1 = at-same-value .before .before in
+    let at-find-node = at-if1 .before in
+    let known = at-find-node .before .before in
+    let start = known .before .before in
+    copied _ _ _ (start .pre .1) (at-find-node .find-node .ensures) (known-bytes (start .args .s .now) (λ i. omega (arith, known .shared-slice-known .given i))) (start .pre .0)
+    (at-if1 .if1 .left) (at-same-value .same-value .ensures) (not-false _ (at-if2 .if2 .left)) (start .args .b .now) _ (start .pre .2) (at-copy-in .copy-in .kept .0) (at-copy-in .copy-in .ensures)
 
 pub copy-broker-spec : {M : Type 1} → statement M
 copy-broker-spec =

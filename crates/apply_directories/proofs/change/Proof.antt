@@ -22,7 +22,9 @@ same-length : tie.Need-same-length
 same-length c = search needs
 
 returns : tie.Need-returns
-returns c = none-set (c .before .before .before .before .before .before .before .args .b .now) (c .before .before .before .before .before .before .before .args .rec .now) (c .before .before .before .before .before .before .before .args .n) (c .before .before .before .before .before .before .before .pre .0) (c .before .before .build .ensures) (c .if1 .taken) _
+returns c =
+    let start = c .before .before .before .before .before .before .before in
+    none-set (start .args .b .now) (start .args .rec .now) (start .args .n) (start .pre .0) (c .before .before .build .ensures) (c .if1 .taken) _
 
 array-share-prefix-dirs : tie.Need-array-share-prefix-dirs
 array-share-prefix-dirs c = search needs
@@ -31,13 +33,22 @@ slice-aggregate-set-field : tie.Need-slice-aggregate-set-field
 slice-aggregate-set-field c = sym (length-take-le _ _ (c .before .before .before .before .build .ensures .fits))
 
 set-field-requires : tie.Need-set-field-requires
-set-field-requires c κs = may-set (c .before .before .before .before .before .before .before .before .before .args .b .now) (c .before .before .before .before .before .before .before .before .before .args .rec .now) (c .before .before .before .before .before .before .before .before .before .args .n) (c .before .before .before .before .before .before .before .before .before .pre .0) (c .before .before .before .before .build .ensures) (c .before .before .before .before .before .before .before .before .before .pre .2) (c .before .before .before .before .before .before .before .before .before .pre .3)
+set-field-requires c κs =
+    let at-build = c .before .before .before .before in
+    let start = at-build .before .before .before .before .before in
+    may-set (start .args .b .now) (start .args .rec .now) (start .args .n) (start .pre .0) (at-build .build .ensures) (start .pre .2) (start .pre .3)
 
 same-length-2 : tie.Need-same-length-2
 same-length-2 c = search needs
 
 returns-2 : tie.Need-returns-2
-returns-2 c = dirs-set (c .before .before .before .before .before .before .before .before .before .before .before .before .args .b .now) (c .before .before .before .before .before .before .before .before .before .before .before .before .args .rec .now) (c .before .before .before .before .before .before .before .before .before .before .before .before .args .n) (c .before .before .before .before .before .before .before .before .before .before .before .before .pre .0) (c .before .before .before .before .before .before .before .build .ensures) (c .before .before .before .before .before .before .before .before .before .before .before .before .pre .2) (c .before .before .before .before .before .before .before .before .before .before .before .before .pre .3) (c .before .before .before .before .before .if1 .left) _ (c .before .before .set-field .kept .0) (c .before .before .set-field .ensures)
+returns-2 c =
+    let at-set-field = c .before .before in
+    let at-if1 = at-set-field .before .before .before in
+    let at-build = at-if1 .before .before in
+    let start = at-build .before .before .before .before .before in
+    dirs-set (start .args .b .now) (start .args .rec .now) (start .args .n) (start .pre .0) (at-build .build .ensures) (start .pre .2) (start .pre .3) (at-if1 .if1 .left) _
+    (at-set-field .set-field .kept .0) (at-set-field .set-field .ensures)
 
 pub change-spec : {M : Type 1} → statement M
 change-spec =

@@ -32,10 +32,17 @@ part-find-end-2 : tie.Need-part-find-end-2
 part-find-end-2 c = search needs
 
 find-requires : tie.Need-find-requires
-find-requires c κs = (c .before .before .before .before .before .before .before .pre .0, asks (c .before .before .before .before .before .before .before .args .s .now) _ (c .before .before .before .before .before .before .before .pre .1) _ _ _ _ (c .before .before .before .value-at .ensures) (c .before .before .value-at2 .ensures))
+find-requires c κs =
+    let at-value-at = c .before .before .before in
+    let start = at-value-at .before .before .before .before in
+    (start .pre .0, asks (start .args .s .now) _ (start .pre .1) _ _ _ _ (at-value-at .value-at .ensures) (c .before .before .value-at2 .ensures))
 
 returns : tie.Need-returns
-returns c = not-stored _ _ (c .before .before .before .before .before .before .before .before .before .pre .1) _ _ _ _ (c .before .before .before .before .before .value-at .ensures) (c .before .before .before .before .value-at2 .ensures) (c .before .find .ensures) (c .if1 .taken) _
+returns c =
+    let at-value-at2 = c .before .before .before .before in
+    let at-value-at = at-value-at2 .before in
+    let start = at-value-at .before .before .before .before in
+    not-stored _ _ (start .pre .1) _ _ _ _ (at-value-at .value-at .ensures) (at-value-at2 .value-at2 .ensures) (c .before .find .ensures) (c .if1 .taken) _
 
 sub-copy-in : tie.Need-sub-copy-in
 sub-copy-in c = search needs
@@ -47,13 +54,30 @@ part-copy-in-end : tie.Need-part-copy-in-end
 part-copy-in-end c = search needs
 
 copy-in-requires : tie.Need-copy-in-requires
-copy-in-requires c κs = entry-fits _ _ (c .before .before .before .before .before .before .before .before .before .before .before .pre .1) _ _ _ _ (c .before .before .before .before .before .before .before .value-at .ensures) (c .before .before .before .before .before .before .value-at2 .ensures) (c .before .before .before .find .ensures) (known-bytes (c .before .before .before .before .before .before .before .before .before .before .before .args .s .now) (λ i. omega (arith, c .before .before .before .before .before .before .before .before .before .shared-slice-known .given i))) (c .before .before .before .before .before .before .before .before .before .before .before .pre .0) (c .before .before .if1 .left) (c .before .before .before .before .before .before .before .before .before .before .before .args .b .now) (c .before .before .before .before .before .before .before .before .before .before .before .pre .2)
+copy-in-requires c κs =
+    let at-find = c .before .before .before in
+    let at-value-at2 = at-find .before .before .before in
+    let at-value-at = at-value-at2 .before in
+    let known = at-value-at .before .before in
+    let start = known .before .before in
+    entry-fits _ _ (start .pre .1) _ _ _ _ (at-value-at .value-at .ensures) (at-value-at2 .value-at2 .ensures) (at-find .find .ensures)
+    (known-bytes (start .args .s .now) (λ i. omega (arith, known .shared-slice-known .given i))) (start .pre .0) (c .before .before .if1 .left) (start .args .b .now) (start .pre .2)
 
 same-length : tie.Need-same-length
 same-length c = search needs
 
 returns-2 : tie.Need-returns-2
-returns-2 c = copied _ _ (c .before .before .before .before .before .before .before .before .before .before .before .before .before .before .pre .1) _ _ _ _ (c .before .before .before .before .before .before .before .before .before .before .value-at .ensures) (c .before .before .before .before .before .before .before .before .before .value-at2 .ensures) (c .before .before .before .before .before .before .find .ensures) (known-bytes (c .before .before .before .before .before .before .before .before .before .before .before .before .before .before .args .s .now) (λ i. omega (arith, c .before .before .before .before .before .before .before .before .before .before .before .before .shared-slice-known .given i))) (c .before .before .before .before .before .before .before .before .before .before .before .before .before .before .pre .0) (c .before .before .before .before .before .if1 .left) (c .before .before .before .before .before .before .before .before .before .before .before .before .before .before .args .b .now) _ (c .before .before .before .before .before .before .before .before .before .before .before .before .before .before .pre .2) (c .before .before .copy-in .kept .0) (c .before .before .copy-in .ensures)
+returns-2 c =
+    let at-copy-in = c .before .before in
+    let at-if1 = at-copy-in .before .before .before in
+    let at-find = at-if1 .before in
+    let at-value-at2 = at-find .before .before .before in
+    let at-value-at = at-value-at2 .before in
+    let known = at-value-at .before .before in
+    let start = known .before .before in
+    copied _ _ (start .pre .1) _ _ _ _ (at-value-at .value-at .ensures) (at-value-at2 .value-at2 .ensures) (at-find .find .ensures)
+    (known-bytes (start .args .s .now) (λ i. omega (arith, known .shared-slice-known .given i))) (start .pre .0) (at-if1 .if1 .left) (start .args .b .now) _ (start .pre .2)
+    (at-copy-in .copy-in .kept .0) (at-copy-in .copy-in .ensures)
 
 pub copy-partition-spec : {M : Type 1} → statement M
 copy-partition-spec =

@@ -22,19 +22,26 @@ array-share-prefix-p c = search needs
 
 slice-aggregate-drop-real : tie.Need-slice-aggregate-drop-real
 slice-aggregate-drop-real c =
-    lent-length (c .before .before .before .before .before .before .before .before .args .kind) (c .before .before .before .before .before .before .before .before .args .name .now) [] (c .before .before .before .before .before .before .before .before .pre .1) (c .before .before .before .probe .last .0) (c .before .before .before .probe .ensures .0) (c .before .before .before .probe .ensures .1)
+    let at-probe = c .before .before .before in
+    let start = at-probe .before .before .before .before .before in
+    lent-length (start .args .kind) (start .args .name .now) [] (start .pre .1) (at-probe .probe .last .0) (at-probe .probe .ensures .0) (at-probe .probe .ensures .1)
 
 drop-real-requires : tie.Need-drop-real-requires
-drop-real-requires c κs = (
-  c .before .before .before .before .before .before .before .before .pre .0,
-  lent-probe (c .before .before .before .before .before .before .before .before .args .kind) (c .before .before .before .before .before .before .before .before .args .name .now) [] (c .before .before .before .before .before .before .before .before .pre .1) (c .before .before .before .probe .last .0) (c .before .before .before .probe .ensures .0) (c .before .before .before .probe .ensures .1),
-)
+drop-real-requires c κs =
+    let at-probe = c .before .before .before in
+    let start = at-probe .before .before .before .before .before in (
+      start .pre .0,
+      lent-probe (start .args .kind) (start .args .name .now) [] (start .pre .1) (at-probe .probe .last .0) (at-probe .probe .ensures .0) (at-probe .probe .ensures .1),
+    )
 
 same-length : tie.Need-same-length
 same-length c = search needs
 
 returns : tie.Need-returns
-returns c = probe-drop _ (ap keyIn (c .before .before .before .before .before .before .probe .ensures .1) ∙ query-key (c .before .before .before .before .before .before .before .before .before .before .before .args .kind) (c .before .before .before .before .before .before .before .before .before .before .before .args .name .now) [] (c .before .before .before .before .before .before .before .before .before .before .before .pre .1)) (c .before .before .drop-real .ensures)
+returns c =
+    let at-probe = c .before .before .before .before .before .before in
+    let start = at-probe .before .before .before .before .before in
+    probe-drop _ (ap keyIn (at-probe .probe .ensures .1) ∙ query-key (start .args .kind) (start .args .name .now) [] (start .pre .1)) (c .before .before .drop-real .ensures)
 
 pub erase-named-spec : {M : Type 1} → statement M
 erase-named-spec =

@@ -11,10 +11,14 @@ slice-reshare-prefix-sum-of : tie.Need-slice-reshare-prefix-sum-of
 slice-reshare-prefix-sum-of c = search needs
 
 slice-aggregate-sum-of : tie.Need-slice-aggregate-sum-of
-slice-aggregate-sum-of c = sym (length-take-le _ (c .before .before .before .before .args .w .now) (omega (arith, c .before .before .before .before .pre .0 .order, c .before .before .before .before .pre .0 .fits)))
+slice-aggregate-sum-of c =
+    let start = c .before .before .before .before in
+    sym (length-take-le _ (start .args .w .now) (omega (arith, start .pre .0 .order, start .pre .0 .fits)))
 
 sum-of-requires : tie.Need-sum-of-requires
-sum-of-requires c κs = (c .before .before .before .before .pre .0 .reals, c .before .before .before .before .pre .1, c .before .before .before .before .pre .2)
+sum-of-requires c κs =
+    let start = c .before .before .before .before in
+    (start .pre .0 .reals, start .pre .1, start .pre .2)
 
 draft-requires : tie.Need-draft-requires
 draft-requires c κs = search needs
@@ -23,10 +27,16 @@ slice-reshare-prefix-set : tie.Need-slice-reshare-prefix-set
 slice-reshare-prefix-set c = search needs
 
 slice-aggregate-set : tie.Need-slice-aggregate-set
-slice-aggregate-set c = sym (length-take-le _ (c .before .before .before .before .draft .last .0) (omega (arith, c .before .before .before .before .draft .ensures .1, c .before .before .before .before .draft .kept .0, c .before .before .before .before .before .before .before .before .before .before .before .pre .4)))
+slice-aggregate-set c =
+    let at-draft = c .before .before .before .before in
+    let start = at-draft .before .before .before .before .before .before .before in
+    sym (length-take-le _ (at-draft .draft .last .0) (omega (arith, at-draft .draft .ensures .1, at-draft .draft .kept .0, start .pre .4)))
 
 set-requires : tie.Need-set-requires
-set-requires c κs = (c .before .before .before .before .before .before .before .before .before .before .before .pre .0, offset-record _ (c .before .before .before .before .before .before .before .before .before .before .before .pre .1) (c .before .before .before .before .before .before .before .before .before .before .before .pre .2) _ _ (c .before .before .before .before .draft .ensures .0), offset-plain _ (c .before .before .before .before .before .before .before .before .before .before .before .pre .1) (c .before .before .before .before .before .before .before .before .before .before .before .pre .2) _ _ (c .before .before .before .before .draft .ensures .0), c .before .before .before .before .before .before .before .before .before .before .before .pre .3)
+set-requires c κs =
+    let at-draft = c .before .before .before .before in
+    let start = at-draft .before .before .before .before .before .before .before in
+    (start .pre .0, offset-record _ (start .pre .1) (start .pre .2) _ _ (at-draft .draft .ensures .0), offset-plain _ (start .pre .1) (start .pre .2) _ _ (at-draft .draft .ensures .0), start .pre .3)
 
 same-length : tie.Need-same-length
 same-length c = search needs
@@ -35,7 +45,11 @@ same-length-2 : tie.Need-same-length-2
 same-length-2 c = search needs
 
 returns : tie.Need-returns
-returns c = offset-made _ (c .before .before .before .before .before .before .before .before .before .before .before .before .before .before .pre .1) (c .before .before .before .before .before .before .before .before .before .before .before .before .before .before .pre .2) _ _ (c .before .before .before .before .before .before .before .draft .ensures .0) _ (c .before .before .before .before .before .before .before .before .before .sum-of .ensures .0) (c .before .before .set .ensures)
+returns c =
+    let at-draft = c .before .before .before .before .before .before .before in
+    let at-sum-of = at-draft .before .before in
+    let start = at-sum-of .before .before .before .before .before in
+    offset-made _ (start .pre .1) (start .pre .2) _ _ (at-draft .draft .ensures .0) _ (at-sum-of .sum-of .ensures .0) (c .before .before .set .ensures)
 
 pub advance-spec : {M : Type 1} → statement M
 advance-spec =

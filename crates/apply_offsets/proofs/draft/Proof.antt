@@ -18,19 +18,37 @@ put-requires : tie.Need-put-requires
 put-requires c κs = search needs
 
 copy-in-requires : tie.Need-copy-in-requires
-copy-in-requires c κs = omega (arith, record-size _ (c .before .before .before .before .before .before .before .pre .0), c .before .before .before .before .before .before .before .pre .2)
+copy-in-requires c κs =
+    let start = c .before .before .before .before .before .before .before in
+    omega (arith, record-size _ (start .pre .0), start .pre .2)
 
 slice-aggregate-set-field : tie.Need-slice-aggregate-set-field
 slice-aggregate-set-field c = search needs
 
 set-field-requires : tie.Need-set-field-requires
-set-field-requires c κs = (omega (arith, record-size _ (c .before .before .before .before .before .before .before .before .before .before .before .before .pre .0), c .before .before .before .before .copy-in .ensures .0, c .before .before .before .before .before .before .before .put .kept .0, c .before .before .before .before .copy-in .kept .0, c .before .before .before .before .before .before .before .before .before .before .before .before .pre .2), omega (arith, c .before .before .before .before .before .before .before .put .kept .0), copied-draft _ (c .before .before .before .before .before .before .before .before .before .before .before .before .pre .0) (c .before .before .before .before .before .before .before .before .before .before .before .before .pre .1) (c .before .before .before .before .copy-in .last .0) (c .before .before .before .before .copy-in .result) (c .before .before .before .before .copy-in .ensures .1))
+set-field-requires c κs =
+    let at-copy-in = c .before .before .before .before in
+    let at-put = at-copy-in .before .before .before in
+    let start = at-put .before .before .before .before .before in (
+      omega (arith, record-size _ (start .pre .0), at-copy-in .copy-in .ensures .0, at-put .put .kept .0, at-copy-in .copy-in .kept .0, start .pre .2),
+      omega (arith, at-put .put .kept .0),
+      copied-draft _ (start .pre .0) (start .pre .1) (at-copy-in .copy-in .last .0) (at-copy-in .copy-in .result) (at-copy-in .copy-in .ensures .1),
+    )
 
 same-length : tie.Need-same-length
 same-length c = search needs
 
 returns : tie.Need-returns
-returns c = (offset-drafted _ (c .before .before .before .before .before .before .before .before .before .before .before .before .before .before .before .pre .0) (c .before .before .before .before .before .before .before .before .before .before .before .before .before .before .before .pre .1) (c .before .before .before .before .before .before .before .copy-in .last .0) (c .before .before .before .before .before .before .before .copy-in .result) (c .before .before .before .before .before .before .before .copy-in .ensures .1) (c .before .before .before .before .before .before .before .before .before .before .before .before .before .before .before .args .offset) (c .before .before .before .before .before .before .before .before .before .before .put .ensures ∙ ap (bytes 8) (c .before .before .before .before .before .before .before .before .before .before .before .turned .ensures)) (c .before .before .set-field .ensures .0), omega (arith, c .before .before .set-field .ensures .1, record-size _ (c .before .before .before .before .before .before .before .before .before .before .before .before .before .before .before .pre .0), c .before .before .before .before .before .before .before .copy-in .ensures .0, c .before .before .before .before .before .before .before .before .before .before .put .kept .0))
+returns c =
+    let at-set-field = c .before .before in
+    let at-copy-in = at-set-field .before .before .before .before .before in
+    let at-put = at-copy-in .before .before .before in
+    let at-turned = at-put .before in
+    let start = at-turned .before .before .before .before in (
+      offset-drafted _ (start .pre .0) (start .pre .1) (at-copy-in .copy-in .last .0) (at-copy-in .copy-in .result) (at-copy-in .copy-in .ensures .1) (start .args .offset)
+          (at-put .put .ensures ∙ ap (bytes 8) (at-turned .turned .ensures)) (at-set-field .set-field .ensures .0),
+      omega (arith, at-set-field .set-field .ensures .1, record-size _ (start .pre .0), at-copy-in .copy-in .ensures .0, at-put .put .kept .0),
+    )
 
 pub draft-spec : {M : Type 1} → statement M
 draft-spec =

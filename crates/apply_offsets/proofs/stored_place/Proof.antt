@@ -8,10 +8,14 @@ use Rattle.apply_offsets.proofs.stored_place.Statement.{statement}
 use Rattle.apply_offsets.proofs.stored_place.Tie as tie
 
 seek-requires : tie.Need-seek-requires
-seek-requires c κs = (c .before .before .pre .0, is-keyed _ (c .before .before .pre .1))
+seek-requires c κs =
+    let start = c .before .before in
+    (start .pre .0, is-keyed _ (start .pre .1))
 
 returns : tie.Need-returns
-returns c = no-offset _ (c .before .before .before .before .pre .1) (c .before .before .before .before .pre .2) _ (c .before .seek .ensures) (c .if1 .taken)
+returns c =
+    let start = c .before .before .before .before in
+    no-offset _ (start .pre .1) (start .pre .2) _ (c .before .seek .ensures) (c .if1 .taken)
 
 sub-place-in : tie.Need-sub-place-in
 sub-place-in c = search needs
@@ -23,10 +27,19 @@ part-place-in-end : tie.Need-part-place-in-end
 part-place-in-end c = search needs
 
 place-in-requires : tie.Need-place-in-requires
-place-in-requires c κs = offset-asked _ (c .before .before .before .before .before .pre .1) (c .before .before .before .before .before .pre .2) _ (c .before .before .seek .ensures) (known-bytes (c .before .before .before .before .before .args .s .now) (λ i. omega (arith, c .before .before .before .before .shared-slice-known .given i))) (c .before .before .before .before .before .pre .0) (c .before .if1 .left)
+place-in-requires c κs =
+    let known = c .before .before .before .before in
+    let start = known .before in
+    offset-asked _ (start .pre .1) (start .pre .2) _ (c .before .before .seek .ensures) (known-bytes (start .args .s .now) (λ i. omega (arith, known .shared-slice-known .given i)))
+    (start .pre .0) (c .before .if1 .left)
 
 returns-2 : tie.Need-returns-2
-returns-2 c = offset-place _ (c .before .before .before .before .before .before .pre .1) (c .before .before .before .before .before .before .pre .2) _ (c .before .before .before .seek .ensures) (known-bytes (c .before .before .before .before .before .before .args .s .now) (λ i. omega (arith, c .before .before .before .before .before .shared-slice-known .given i))) (c .before .before .before .before .before .before .pre .0) (c .before .before .if1 .left) (c .place-in .ensures)
+returns-2 c =
+    let at-seek = c .before .before .before in
+    let known = at-seek .before .before in
+    let start = known .before in
+    offset-place _ (start .pre .1) (start .pre .2) _ (at-seek .seek .ensures) (known-bytes (start .args .s .now) (λ i. omega (arith, known .shared-slice-known .given i)))
+    (start .pre .0) (c .before .before .if1 .left) (c .place-in .ensures)
 
 pub stored-place-spec : {M : Type 1} → statement M
 stored-place-spec =

@@ -13,15 +13,19 @@ stored-place-requires : tie.Need-stored-place-requires
 stored-place-requires c κs = search needs
 
 place-in-requires : tie.Need-place-in-requires
-place-in-requires c κs = advance-asked _ (c .before .before .before .pre .1) (c .before .before .before .pre .2)
+place-in-requires c κs =
+    let start = c .before .before .before in
+    advance-asked _ (start .pre .1) (start .pre .2)
 
 add-requires : tie.Need-add-requires
 add-requires c κs = search needs
 
 returns : tie.Need-returns
 returns c =
-    let run = recordIn (c .before .before .before .before .before .args .rec .now) .run in
-    sum-is (storedOffset run (entriesIn (c .before .before .before .before .before .args .s .now))) (value 3 run) (c .before .before .stored-place .ensures) (advance-place _ (c .before .before .before .before .before .pre .1) (c .before .before .before .before .before .pre .2) (c .before .place-in .ensures)) (c .add .ensures)
+    let start = c .before .before .before .before .before in
+    let run = recordIn (start .args .rec .now) .run in
+    sum-is (storedOffset run (entriesIn (start .args .s .now))) (value 3 run) (c .before .before .stored-place .ensures)
+    (advance-place _ (start .pre .1) (start .pre .2) (c .before .place-in .ensures)) (c .add .ensures)
 
 pub sum-of-spec : {M : Type 1} → statement M
 sum-of-spec = tie.close (tie.spec stored-place-requires place-in-requires add-requires returns)

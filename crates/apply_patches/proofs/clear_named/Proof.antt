@@ -26,7 +26,9 @@ loop-holds c =
 
 -- the part that is walked is within the buffer
 within : (c : tie.At-loop Inv-loop μ-loop) → c .before .before .before .args .bounds .mid ≤ length (c .before .before .before .args .w .now)
-within c = omega (arith, c .before .before .before .pre .order, c .before .before .before .pre .fits)
+within c =
+    let start = c .before .before .before in
+    omega (arith, start .pre .order, start .pre .fits)
 
 slice-reshare-prefix-next : tie.Need-slice-reshare-prefix-next Inv-loop μ-loop
 slice-reshare-prefix-next c = omega (arith, within c, c .loop .inv .same)

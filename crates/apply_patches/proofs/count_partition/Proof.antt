@@ -28,12 +28,16 @@ loop-holds c =
 
 -- the part that is walked is within the buffer
 within : (c : tie.At-loop Inv-loop μ-loop) → c .before .before .before .args .bounds .mid ≤ length (c .before .before .before .args .w .now)
-within c = omega (arith, c .before .before .before .pre .0 .order, c .before .before .before .pre .0 .fits)
+within c =
+    let start = c .before .before .before in
+    omega (arith, start .pre .0 .order, start .pre .0 .fits)
 
 -- the change is one of entries that can be counted up
 suits : (c : tie.At-loop Inv-loop μ-loop)
     → (let a = c .before .before .before .args in Suits (countPartition (a .name .now) (a .new) (a .replicas)) (λ r. Sound r × CountFits (entryOf r)))
-suits c = count-partition-suits _ _ _ (c .before .before .before .pre .1) (c .before .before .before .pre .2)
+suits c =
+    let start = c .before .before .before in
+    count-partition-suits _ _ _ (start .pre .1) (start .pre .2)
 
 slice-reshare-prefix-next : tie.Need-slice-reshare-prefix-next Inv-loop μ-loop
 slice-reshare-prefix-next c = omega (arith, within c, c .loop .inv .same)

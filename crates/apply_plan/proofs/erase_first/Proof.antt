@@ -20,7 +20,9 @@ part-erase-named-end : tie.Need-part-erase-named-end
 part-erase-named-end c = search needs
 
 erase-named-requires : tie.Need-erase-named-requires
-erase-named-requires c κs = (c .before .before .before .before .before .pre .0, lent-query _ (lent-value _ _ _ _ (c .before .before .value-at .ensures)) refl (c .before .before .before .before .before .pre .2))
+erase-named-requires c κs =
+    let start = c .before .before .before .before .before in
+    (start .pre .0, lent-query _ (lent-value _ _ _ _ (c .before .before .value-at .ensures)) refl (start .pre .2))
 
 same-length : tie.Need-same-length
 same-length c = search needs

@@ -3,7 +3,8 @@ use borrow.Author.Needs.{needs}
 use mathlib.Core.Path.{refl}
 use native.Mathlib.Omega.{arith}
 use Rattle.model.specs.Kind.{kindNumber}
-use Rattle.model.specs.declared.Kind.the-variants.{Partition, BrokerRegistration, TopicConfig, BrokerConfig, ClientQuota, ProducerIds, UnregisterBroker, FeatureLevel, ClientMetricsConfig, PartitionDirAssignment, PartitionOffsetAdvance, GroupConfig, ControllerRegistration, TopicFreeze, BreakGlassProposal, PartitionElr, PartitionRecovery, PartitionUpdate, BrokerRegistrationChange}
+use Rattle.model.specs.declared.Kind.the-variants.{Partition, BrokerRegistration, TopicConfig, BrokerConfig, ClientQuota, ProducerIds, UnregisterBroker, FeatureLevel, ClientMetricsConfig, PartitionDirAssignment}
+use Rattle.model.specs.declared.Kind.the-variants.{PartitionOffsetAdvance, GroupConfig, ControllerRegistration, TopicFreeze, BreakGlassProposal, PartitionElr, PartitionRecovery, PartitionUpdate, BrokerRegistrationChange}
 use Rattle.laws.specs.Choice.{impossible}
 use Rattle.laws.specs.Numbers.{length-bytes}
 use Rattle.laws.specs.Refused.{no-kind}
@@ -11,7 +12,8 @@ use Rattle.find.proofs.Logged.{headed, kind-zero, kind-past}
 use Rattle.find.proofs.Queries.{controller-query}
 use Rattle.apply_plan.proofs.Steps.{epoch-width, kraft-width}
 use Rattle.apply_plan.proofs.Arms.{drop-lent}
-use Rattle.apply_plan.proofs.ByKind.{logged-is, record-kind, by-record, broker, topic-config, level, metrics, group, controller, freeze, proposal, elr, recovery, set-is, set-is-plain, set-made, topic-made, part-made, delete-made, name-fits, update-made, proposal-asked, proposal-made, controller-width, controller-made, config-made, config-grouped, config-ordered}
+use Rattle.apply_plan.proofs.ByKind.{logged-is, record-kind, by-record, broker, topic-config, level, metrics, group, controller, freeze, proposal, elr, recovery, set-is}
+use Rattle.apply_plan.proofs.ByKind.{set-is-plain, set-made, topic-made, part-made, delete-made, name-fits, update-made, proposal-asked, proposal-made, controller-width, controller-made, config-made, config-grouped, config-ordered}
 use Rattle.apply_plan.proofs.OnStates.{planned-bounds, planned-level, planned-epoch, planned-kraft, planned-offset}
 use Rattle.apply_plan.proofs.make.Statement.{statement}
 use Rattle.apply_plan.proofs.make.Tie as tie
@@ -28,8 +30,14 @@ with-bounds-requires c κs = search needs
 put-partition-requires : tie.Need-put-partition-requires
 unfolding kindNumber
 put-partition-requires c κs =
-    let ready = c .before .before .before .before .before .before .before .before .pre in
-    (ready .0 .good, logged-is _ (ready .0 .logged) Partition (c .before .match .keys2) (λ e. impossible cc), record-kind _ (ready .0 .logged) Partition (c .before .match .keys2) (λ e. impossible cc), ready .0 .counts, omega (arith, ready .0 .space))
+    let start = c .before .before .before .before .before .before .before .before in
+    let ready = start .pre in (
+      ready .0 .good,
+      logged-is _ (ready .0 .logged) Partition (c .before .match .keys2) (λ e. impossible cc),
+      record-kind _ (ready .0 .logged) Partition (c .before .match .keys2) (λ e. impossible cc),
+      ready .0 .counts,
+      omega (arith, ready .0 .space),
+    )
 
 with-bounds-requires-2 : tie.Need-with-bounds-requires-2
 with-bounds-requires-2 c κs = search needs
@@ -82,8 +90,16 @@ with-bounds-requires-6 c κs = search needs
 quota-requires : tie.Need-quota-requires
 unfolding kindNumber
 quota-requires c κs =
-    let ready = c .before .before .before .before .before .before .before .before .before .before .pre in
-    (ready .0 .good, logged-is _ (ready .0 .logged) ClientQuota (c .before .before .before .match .keys7) (λ e. impossible cc), record-kind _ (ready .0 .logged) ClientQuota (c .before .before .before .match .keys7) (λ e. impossible cc), omega (arith, ready .0 .space), ready .1, ready .2)
+    let at-match = c .before .before .before in
+    let start = at-match .before .before .before .before .before .before .before in
+    let ready = start .pre in (
+      ready .0 .good,
+      logged-is _ (ready .0 .logged) ClientQuota (at-match .match .keys7) (λ e. impossible cc),
+      record-kind _ (ready .0 .logged) ClientQuota (at-match .match .keys7) (λ e. impossible cc),
+      omega (arith, ready .0 .space),
+      ready .1,
+      ready .2,
+    )
 
 with-bounds-requires-7 : tie.Need-with-bounds-requires-7
 with-bounds-requires-7 c κs = search needs
@@ -91,8 +107,14 @@ with-bounds-requires-7 c κs = search needs
 producers-requires : tie.Need-producers-requires
 unfolding kindNumber
 producers-requires c κs =
-    let ready = c .before .before .before .before .before .before .before .before .pre in
-    (ready .0 .good, logged-is _ (ready .0 .logged) ProducerIds (c .before .match .keys8) (λ e. impossible cc), record-kind _ (ready .0 .logged) ProducerIds (c .before .match .keys8) (λ e. impossible cc), ready .0 .stored, omega (arith, ready .0 .space))
+    let start = c .before .before .before .before .before .before .before .before in
+    let ready = start .pre in (
+      ready .0 .good,
+      logged-is _ (ready .0 .logged) ProducerIds (c .before .match .keys8) (λ e. impossible cc),
+      record-kind _ (ready .0 .logged) ProducerIds (c .before .match .keys8) (λ e. impossible cc),
+      ready .0 .stored,
+      omega (arith, ready .0 .space),
+    )
 
 with-bounds-requires-8 : tie.Need-with-bounds-requires-8
 with-bounds-requires-8 c κs = search needs
@@ -100,8 +122,12 @@ with-bounds-requires-8 c κs = search needs
 unregister-requires : tie.Need-unregister-requires
 unfolding kindNumber
 unregister-requires c κs =
-    let ready = c .before .before .before .before .before .before .before .before .pre in
-    (ready .0 .good, logged-is _ (ready .0 .logged) UnregisterBroker (c .before .match .keys9) (λ e. impossible cc), record-kind _ (ready .0 .logged) UnregisterBroker (c .before .match .keys9) (λ e. impossible cc))
+    let start = c .before .before .before .before .before .before .before .before in
+    let ready = start .pre in (
+      ready .0 .good,
+      logged-is _ (ready .0 .logged) UnregisterBroker (c .before .match .keys9) (λ e. impossible cc),
+      record-kind _ (ready .0 .logged) UnregisterBroker (c .before .match .keys9) (λ e. impossible cc),
+    )
 
 with-bounds-requires-9 : tie.Need-with-bounds-requires-9
 with-bounds-requires-9 c κs = search needs
@@ -141,8 +167,16 @@ with-epoch-requires c κs =
 assign-requires : tie.Need-assign-requires
 unfolding kindNumber
 assign-requires c κs =
-    let ready = c .before .before .before .before .before .before .before .before .before .pre in
-    (ready .0 .good, logged-is _ (ready .0 .logged) PartitionDirAssignment (c .before .before .match .keys14) (λ e. impossible cc), record-kind _ (ready .0 .logged) PartitionDirAssignment (c .before .before .match .keys14) (λ e. impossible cc), ready .0 .ascends, omega (arith, ready .0 .space), ready .1)
+    let at-match = c .before .before in
+    let start = at-match .before .before .before .before .before .before .before in
+    let ready = start .pre in (
+      ready .0 .good,
+      logged-is _ (ready .0 .logged) PartitionDirAssignment (at-match .match .keys14) (λ e. impossible cc),
+      record-kind _ (ready .0 .logged) PartitionDirAssignment (at-match .match .keys14) (λ e. impossible cc),
+      ready .0 .ascends,
+      omega (arith, ready .0 .space),
+      ready .1,
+    )
 
 with-bounds-requires-11 : tie.Need-with-bounds-requires-11
 with-bounds-requires-11 c κs = search needs
@@ -150,8 +184,15 @@ with-bounds-requires-11 c κs = search needs
 add-offset-requires : tie.Need-add-offset-requires
 unfolding kindNumber
 add-offset-requires c κs =
-    let ready = c .before .before .before .before .before .before .before .before .before .pre in
-    (ready .0 .good, logged-is _ (ready .0 .logged) PartitionOffsetAdvance (c .before .before .match .keys15) (λ e. impossible cc), record-kind _ (ready .0 .logged) PartitionOffsetAdvance (c .before .before .match .keys15) (λ e. impossible cc), omega (arith, ready .0 .space), ready .1)
+    let at-match = c .before .before in
+    let start = at-match .before .before .before .before .before .before .before in
+    let ready = start .pre in (
+      ready .0 .good,
+      logged-is _ (ready .0 .logged) PartitionOffsetAdvance (at-match .match .keys15) (λ e. impossible cc),
+      record-kind _ (ready .0 .logged) PartitionOffsetAdvance (at-match .match .keys15) (λ e. impossible cc),
+      omega (arith, ready .0 .space),
+      ready .1,
+    )
 
 set-requires-5 : tie.Need-set-requires-5
 unfolding kindNumber
@@ -225,8 +266,16 @@ with-bounds-requires-18 c κs = search needs
 update-requires : tie.Need-update-requires
 unfolding kindNumber
 update-requires c κs =
-    let ready = c .before .before .before .before .before .before .before .before .before .pre in
-    (ready .0 .good, logged-is _ (ready .0 .logged) PartitionUpdate (c .before .before .match .keys23) (λ e. impossible cc), record-kind _ (ready .0 .logged) PartitionUpdate (c .before .before .match .keys23) (λ e. impossible cc), ready .0 .counts, ready .0 .space, ready .1)
+    let at-match = c .before .before in
+    let start = at-match .before .before .before .before .before .before .before in
+    let ready = start .pre in (
+      ready .0 .good,
+      logged-is _ (ready .0 .logged) PartitionUpdate (at-match .match .keys23) (λ e. impossible cc),
+      record-kind _ (ready .0 .logged) PartitionUpdate (at-match .match .keys23) (λ e. impossible cc),
+      ready .0 .counts,
+      ready .0 .space,
+      ready .1,
+    )
 
 with-bounds-requires-19 : tie.Need-with-bounds-requires-19
 with-bounds-requires-19 c κs = search needs
@@ -234,8 +283,15 @@ with-bounds-requires-19 c κs = search needs
 change-broker-requires : tie.Need-change-broker-requires
 unfolding kindNumber
 change-broker-requires c κs =
-    let ready = c .before .before .before .before .before .before .before .before .before .pre in
-    (ready .0 .good, logged-is _ (ready .0 .logged) BrokerRegistrationChange (c .before .before .match .keys24) (λ e. impossible cc), record-kind _ (ready .0 .logged) BrokerRegistrationChange (c .before .before .match .keys24) (λ e. impossible cc), omega (arith, ready .0 .space), ready .1)
+    let at-match = c .before .before in
+    let start = at-match .before .before .before .before .before .before .before in
+    let ready = start .pre in (
+      ready .0 .good,
+      logged-is _ (ready .0 .logged) BrokerRegistrationChange (at-match .match .keys24) (λ e. impossible cc),
+      record-kind _ (ready .0 .logged) BrokerRegistrationChange (at-match .match .keys24) (λ e. impossible cc),
+      omega (arith, ready .0 .space),
+      ready .1,
+    )
 
 with-bounds-requires-20 : tie.Need-with-bounds-requires-20
 with-bounds-requires-20 c κs = search needs
@@ -434,9 +490,11 @@ same-length-19 c = search needs
 
 returns-15 : tie.Need-returns-15
 returns-15 c =
-    let start = c .before .before .before .before .before .before .before .before .before .before .before .before .before .before in
-    planned-offset (start .args .rec .now) (start .pre .0 .logged) (c .before .before .before .before .before .before .before .match .keys15) (start .args .w .now) (c .before .before .before .before .add-offset .last .0) (start .args .state)
-    (c .before .before .before .before .add-offset .result) (c .before .before .before .before .add-offset .ensures)
+    let at-add-offset = c .before .before .before .before in
+    let at-match = at-add-offset .before .before .before in
+    let start = at-match .before .before .before .before .before .before .before in
+    planned-offset (start .args .rec .now) (start .pre .0 .logged) (at-match .match .keys15) (start .args .w .now) (at-add-offset .add-offset .last .0) (start .args .state)
+    (at-add-offset .add-offset .result) (at-add-offset .add-offset .ensures)
 
 same-length-20 : tie.Need-same-length-20
 same-length-20 c = search needs

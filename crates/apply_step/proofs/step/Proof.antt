@@ -34,14 +34,16 @@ enum-known-next c = search needs
 
 is-light-requires : tie.Need-is-light-requires
 is-light-requires c κs =
-    let start = c .before .before .before .before .before .before .before .before .before .before .before .before .before .before .before .before .before .before in
+    let at-make = c .before .before .before .before .before .before .before .before .before .before in
+    let known = at-make .before .before .before .before in
+    let start = known .before .before .before .before in
     let a = start .args in
-    let rec = known-bytes (a .rec .now) (λ i. omega (arith, c .before .before .before .before .before .before .before .before .before .before .before .before .before .before .shared-slice-known .given i)) in
-    let made = subst (Planned (loggedIn (start .args .rec .now)) (start .args .w .now) (start .args .state) (c .before .before .before .before .before .before .before .before .before .before .make .last .0)) (c .before .before .next .given .1) (c .before .before .before .before .before .before .before .before .before .before .make .ensures) in (
+    let rec = known-bytes (a .rec .now) (λ i. omega (arith, known .shared-slice-known .given i)) in
+    let made = subst (Planned (loggedIn (start .args .rec .now)) (start .args .w .now) (start .args .state) (at-make .make .last .0)) (c .before .before .next .given .1) (at-make .make .ensures) in (
       made .1 .good,
-      ascends-after (a .w .now) (c .before .before .before .before .before .before .before .before .before .before .make .last .0) (a .state) _ (a .capacity) (start .pre .0) (a .rec .now) (start .pre .1) rec made,
+      ascends-after (a .w .now) (at-make .make .last .0) (a .state) _ (a .capacity) (start .pre .0) (a .rec .now) (start .pre .1) rec made,
       capacity-fits (a .w .now) (a .state) (a .capacity) (start .pre .0),
-      omega (arith, start .pre .2, c .before .before .before .before .before .before .before .before .before .before .make .kept .0),
+      omega (arith, start .pre .2, at-make .make .kept .0),
     )
 
 same-length : tie.Need-same-length
@@ -55,11 +57,14 @@ same-length-3 c = search needs
 
 returns : tie.Need-returns
 returns c =
-    let start = c .before .before .before .before .before .before .before .before .before .before .before .before .before .before .before .before .before .before .before .before in
+    let at-next = c .before .before .before .before in
+    let at-make = at-next .before .before .before .before .before .before .before .before in
+    let known = at-make .before .before .before .before in
+    let start = known .before .before .before .before in
     let a = start .args in
-    let rec = known-bytes (a .rec .now) (λ i. omega (arith, c .before .before .before .before .before .before .before .before .before .before .before .before .before .before .before .before .shared-slice-known .given i)) in
-    let made = subst (Planned (loggedIn (start .args .rec .now)) (start .args .w .now) (start .args .state) (c .before .before .before .before .before .before .before .before .before .before .before .before .make .last .0)) (c .before .before .before .before .next .given .1) (c .before .before .before .before .before .before .before .before .before .before .before .before .make .ensures) in
-    (too-heavy (a .w .now) (c .before .before .before .before .before .before .before .before .before .before .before .before .make .last .0) (a .state) _ (a .capacity) (start .pre .0) (a .rec .now) (start .pre .1) rec made (c .before .is-light .ensures) (c .if1 .taken), tt)
+    let rec = known-bytes (a .rec .now) (λ i. omega (arith, known .shared-slice-known .given i)) in
+    let made = subst (Planned (loggedIn (start .args .rec .now)) (start .args .w .now) (start .args .state) (at-make .make .last .0)) (at-next .next .given .1) (at-make .make .ensures) in
+    (too-heavy (a .w .now) (at-make .make .last .0) (a .state) _ (a .capacity) (start .pre .0) (a .rec .now) (start .pre .1) rec made (c .before .is-light .ensures) (c .if1 .taken), tt)
 
 same-length-4 : tie.Need-same-length-4
 same-length-4 c = search needs
@@ -72,10 +77,11 @@ same-length-6 c = search needs
 
 returns-2 : tie.Need-returns-2
 returns-2 c =
-    let start = c .before .before .before .before .before .before .before .before .before .before .before .before .before .before .before .before .before in
+    let at-make = c .before .before .before .before .before .before .before .before .before in
+    let start = at-make .before .before .before .before .before .before .before .before in
     let a = start .args in
-    let refused = subst (Planned (loggedIn (start .args .rec .now)) (start .args .w .now) (start .args .state) (c .before .before .before .before .before .before .before .before .before .make .last .0)) (c .before .number .given .1) (c .before .before .before .before .before .before .before .before .before .make .ensures) in
-    (overflowing (a .w .now) (c .before .before .before .before .before .before .before .before .before .make .last .0) (a .state) (a .capacity) (a .rec .now) refused, tt)
+    let refused = subst (Planned (loggedIn (start .args .rec .now)) (start .args .w .now) (start .args .state) (at-make .make .last .0)) (c .before .number .given .1) (at-make .make .ensures) in
+    (overflowing (a .w .now) (at-make .make .last .0) (a .state) (a .capacity) (a .rec .now) refused, tt)
 
 same-length-7 : tie.Need-same-length-7
 same-length-7 c = search needs
@@ -88,14 +94,18 @@ same-length-9 c = search needs
 
 returns-3 : tie.Need-returns-3
 returns-3 c =
-    let start = c .before .before .before .before .before .before .before .before .before .before .before .before .before .before .before .before .before .before .before .before in
+    let at-next = c .before .before .before .before in
+    let at-slice-known4 = at-next .before .before .before .before .before .before in
+    let at-make = at-slice-known4 .before .before in
+    let known = at-make .before .before .before .before in
+    let start = known .before .before .before .before in
     let a = start .args in
-    let rec = known-bytes (a .rec .now) (λ i. omega (arith, c .before .before .before .before .before .before .before .before .before .before .before .before .before .before .before .before .shared-slice-known .given i)) in
-    let made = subst (Planned (loggedIn (start .args .rec .now)) (start .args .w .now) (start .args .state) (c .before .before .before .before .before .before .before .before .before .before .before .before .make .last .0)) (c .before .before .before .before .next .given .1) (c .before .before .before .before .before .before .before .before .before .before .before .before .make .ensures) in
+    let rec = known-bytes (a .rec .now) (λ i. omega (arith, known .shared-slice-known .given i)) in
+    let made = subst (Planned (loggedIn (start .args .rec .now)) (start .args .w .now) (start .args .state) (at-make .make .last .0)) (at-next .next .given .1) (at-make .make .ensures) in
     let light = c .before .is-light .ensures in
-    let after = known-bytes (c .before .before .before .before .before .before .before .before .before .before .before .before .make .last .0) (λ i. omega (arith, c .before .before .before .before .before .before .before .before .before .before .slice-known4 .given i)) in (
-      becomes-after (a .w .now) (c .before .before .before .before .before .before .before .before .before .before .before .before .make .last .0) (a .state) _ (a .capacity) (start .pre .0) (a .rec .now) (start .pre .1) rec made light (c .if1 .left),
-      holding-after (a .w .now) (c .before .before .before .before .before .before .before .before .before .before .before .before .make .last .0) (a .state) _ (a .capacity) (start .pre .0) (a .rec .now) (start .pre .1) rec made light (c .if1 .left) after,
+    let after = known-bytes (at-make .make .last .0) (λ i. omega (arith, at-slice-known4 .slice-known4 .given i)) in (
+      becomes-after (a .w .now) (at-make .make .last .0) (a .state) _ (a .capacity) (start .pre .0) (a .rec .now) (start .pre .1) rec made light (c .if1 .left),
+      holding-after (a .w .now) (at-make .make .last .0) (a .state) _ (a .capacity) (start .pre .0) (a .rec .now) (start .pre .1) rec made light (c .if1 .left) after,
     )
 
 pub step-spec : {M : Type 1} → statement M

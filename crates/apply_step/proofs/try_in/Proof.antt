@@ -9,16 +9,36 @@ use Rattle.apply_step.proofs.try_in.Statement.{statement}
 use Rattle.apply_step.proofs.try_in.Tie as tie
 
 load-requires : tie.Need-load-requires
-load-requires c κs = (c .before .before .before .before .before .before .pre .0, omega (arith, image-long _ (known-bytes (c .before .before .before .before .before .before .args .image .now) (λ i. omega (arith, c .before .before .shared-slice-known .given i))) (c .before .before .before .before .before .before .pre .0), c .before .before .before .before .before .before .pre .2))
+load-requires c κs =
+    let start = c .before .before .before .before .before .before in
+    (start .pre .0, omega (arith, image-long _ (known-bytes (start .args .image .now) (λ i. omega (arith, c .before .before .shared-slice-known .given i))) (start .pre .0), start .pre .2))
 
 epoch-in-requires : tie.Need-epoch-in-requires
-epoch-in-requires c κs = image-long _ (known-bytes (c .before .before .before .before .before .before .before .before .before .args .image .now) (λ i. omega (arith, c .before .before .before .before .before .shared-slice-known .given i))) (c .before .before .before .before .before .before .before .before .before .pre .0) .0
+epoch-in-requires c κs =
+    let known = c .before .before .before .before .before in
+    let start = known .before .before .before .before in
+    image-long _ (known-bytes (start .args .image .now) (λ i. omega (arith, known .shared-slice-known .given i))) (start .pre .0) .0
 
 kraft-in-requires : tie.Need-kraft-in-requires
-kraft-in-requires c κs = image-long _ (known-bytes (c .before .before .before .before .before .before .before .before .before .before .args .image .now) (λ i. omega (arith, c .before .before .before .before .before .before .shared-slice-known .given i))) (c .before .before .before .before .before .before .before .before .before .before .pre .0) .0
+kraft-in-requires c κs =
+    let known = c .before .before .before .before .before .before in
+    let start = known .before .before .before .before in
+    image-long _ (known-bytes (start .args .image .now) (λ i. omega (arith, known .shared-slice-known .given i))) (start .pre .0) .0
 
 step-requires : tie.Need-step-requires
-step-requires c κs = (holding-loaded (c .before .before .before .before .before .before .before .before .before .before .before .before .before .before .args .image .now) (known-bytes (c .before .before .before .before .before .before .before .before .before .before .before .before .before .before .args .image .now) (λ i. omega (arith, c .before .before .before .before .before .before .before .before .before .before .shared-slice-known .given i))) (c .before .before .before .before .before .before .before .before .before .before .before .before .before .before .pre .0) _ _ _ _ (c .before .before .before .before .before .before .before .load .ensures) (c .before .before .before .before .epoch-in .ensures) (c .before .before .before .kraft-in .ensures), c .before .before .before .before .before .before .before .before .before .before .before .before .before .before .pre .1, omega (arith, c .before .before .before .before .before .before .before .before .before .before .before .before .before .before .pre .2, c .before .before .before .before .before .before .before .load .kept .0), c .before .before .before .before .before .before .before .before .before .before .before .before .before .before .pre .3, c .before .before .before .before .before .before .before .before .before .before .before .before .before .before .pre .4)
+step-requires c κs =
+    let at-kraft-in = c .before .before .before in
+    let at-epoch-in = at-kraft-in .before in
+    let at-load = at-epoch-in .before .before .before in
+    let known = at-load .before .before .before in
+    let start = known .before .before .before .before in (
+      holding-loaded (start .args .image .now) (known-bytes (start .args .image .now) (λ i. omega (arith, known .shared-slice-known .given i))) (start .pre .0) _ _ _ _
+          (at-load .load .ensures) (at-epoch-in .epoch-in .ensures) (at-kraft-in .kraft-in .ensures),
+      start .pre .1,
+      omega (arith, start .pre .2, at-load .load .kept .0),
+      start .pre .3,
+      start .pre .4,
+    )
 
 same-length : tie.Need-same-length
 same-length c = search needs
@@ -30,7 +50,17 @@ same-length-3 : tie.Need-same-length-3
 same-length-3 c = search needs
 
 returns : tie.Need-returns
-returns c = (c .before .before .before .before .before .before .step .ensures .0 ∙ ap (apply _ _) (state-loaded (c .before .before .before .before .before .before .before .before .before .before .before .before .before .before .before .before .before .before .before .before .before .args .image .now) (known-bytes (c .before .before .before .before .before .before .before .before .before .before .before .before .before .before .before .before .before .before .before .before .before .args .image .now) (λ i. omega (arith, c .before .before .before .before .before .before .before .before .before .before .before .before .before .before .before .before .before .shared-slice-known .given i))) (c .before .before .before .before .before .before .before .before .before .before .before .before .before .before .before .before .before .before .before .before .before .pre .0) _ _ _ _ (c .before .before .before .before .before .before .before .before .before .before .before .before .before .before .load .ensures) (c .before .before .before .before .before .before .before .before .before .before .before .epoch-in .ensures) (c .before .before .before .before .before .before .before .before .before .before .kraft-in .ensures)), c .before .before .before .before .before .before .step .ensures .1)
+returns c =
+    let at-step = c .before .before .before .before .before .before in
+    let at-kraft-in = at-step .before .before .before .before in
+    let at-epoch-in = at-kraft-in .before in
+    let at-load = at-epoch-in .before .before .before in
+    let known = at-load .before .before .before in
+    let start = known .before .before .before .before in (
+      at-step .step .ensures .0 ∙ ap (apply _ _)
+          (state-loaded (start .args .image .now) (known-bytes (start .args .image .now) (λ i. omega (arith, known .shared-slice-known .given i))) (start .pre .0) _ _ _ _ (at-load .load .ensures) (at-epoch-in .epoch-in .ensures) (at-kraft-in .kraft-in .ensures)),
+      at-step .step .ensures .1,
+    )
 
 pub try-in-spec : {M : Type 1} → statement M
 try-in-spec =

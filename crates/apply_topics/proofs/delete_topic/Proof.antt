@@ -28,7 +28,9 @@ same-length c = search needs
 
 returns : tie.Need-returns
 returns c =
-    deleted _ (lent-value _ _ _ _ (c .before .before .before .before .before .value-at .ensures)) (c .before .before .before .before .before .before .before .before .clear-old-named .ensures) (c .before .before .drop-topic .ensures)
+    let at-value-at = c .before .before .before .before .before in
+    let at-clear-old-named = at-value-at .before .before .before in
+    deleted _ (lent-value _ _ _ _ (at-value-at .value-at .ensures)) (at-clear-old-named .clear-old-named .ensures) (c .before .before .drop-topic .ensures)
 
 pub delete-topic-spec : {M : Type 1} → statement M
 delete-topic-spec =

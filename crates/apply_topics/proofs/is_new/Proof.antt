@@ -7,11 +7,17 @@ use Rattle.apply_topics.proofs.is_new.Statement.{statement}
 use Rattle.apply_topics.proofs.is_new.Tie as tie
 
 seek-requires : tie.Need-seek-requires
-seek-requires c κs = (c .before .before .pre .0, is-keyed _ (c .before .before .pre .1))
+seek-requires c κs =
+    let start = c .before .before in
+    (start .pre .0, is-keyed _ (start .pre .1))
 
 returns : tie.Need-returns
 returns c =
-    (new-there _ _ (c .before .before .before .before .before .pre .1) (known-bytes (c .before .before .before .before .before .args .s .now) (λ i. omega (arith, c .before .before .before .before .shared-slice-known .given i))) (c .before .before .before .before .before .pre .0) (c .before .before .seek .ensures) (c .if1 .taken), omega arith)
+    let known = c .before .before .before .before in
+    let start = known .before in (
+      new-there _ _ (start .pre .1) (known-bytes (start .args .s .now) (λ i. omega (arith, known .shared-slice-known .given i))) (start .pre .0) (c .before .before .seek .ensures) (c .if1 .taken),
+      omega arith,
+    )
 
 returns-2 : tie.Need-returns-2
 returns-2 c = (new-none _ _ (c .before .before .before .before .before .pre .1) (c .before .before .seek .ensures) (c .if1 .left), omega arith)

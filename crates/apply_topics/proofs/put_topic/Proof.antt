@@ -12,7 +12,9 @@ use Rattle.apply_topics.proofs.put_topic.Statement.{statement}
 use Rattle.apply_topics.proofs.put_topic.Tie as tie
 
 clear-old-named-requires : tie.Need-clear-old-named-requires
-clear-old-named-requires c κs = (c .before .before .before .before .pre .0, logged-headed _ (c .before .before .before .before .pre .1), topic-logged _ (c .before .before .before .before .pre .1) (c .before .before .before .before .pre .2) .name-fits)
+clear-old-named-requires c κs =
+    let start = c .before .before .before .before in
+    (start .pre .0, logged-headed _ (start .pre .1), topic-logged _ (start .pre .1) (start .pre .2) .name-fits)
 
 value-at-requires : tie.Need-value-at-requires
 value-at-requires c κs = logged-headed _ (c .before .before .before .before .before .before .before .pre .1)
@@ -33,20 +35,33 @@ topic-record-requires : tie.Need-topic-record-requires
 topic-record-requires c κs = search needs
 
 slice-reshare-prefix-put-real : tie.Need-slice-reshare-prefix-put-real
-slice-reshare-prefix-put-real c = omega (arith, c .before .before .before .topic-record .ensures .1, c .before .before .before .topic-record .kept .0)
+slice-reshare-prefix-put-real c =
+    let at-topic-record = c .before .before .before in
+    omega (arith, at-topic-record .topic-record .ensures .1, at-topic-record .topic-record .kept .0)
 
 slice-aggregate-put-real : tie.Need-slice-aggregate-put-real
-slice-aggregate-put-real c = sym (length-take-le _ _ (omega (arith, c .before .before .before .before .topic-record .ensures .1, c .before .before .before .before .topic-record .kept .0)))
+slice-aggregate-put-real c =
+    let at-topic-record = c .before .before .before .before in
+    sym (length-take-le _ _ (omega (arith, at-topic-record .topic-record .ensures .1, at-topic-record .topic-record .kept .0)))
 
 put-real-requires : tie.Need-put-real-requires
 put-real-requires c κs =
-    let is = topic-is _ (c .before .before .before .before .before .before .before .before .before .before .before .before .before .before .before .before .before .before .before .pre .1) (c .before .before .before .before .before .before .before .before .before .before .before .before .before .before .before .before .before .before .before .pre .2) (known-bytes (c .before .before .before .before .before .before .before .before .before .before .before .before .before .before .before .before .before .before .before .args .rec .now) (λ i. omega (arith, c .before .before .before .before .before .before .before .before .before .before .before .before .before .before .before .before .shared-slice-known .given i))) (c .before .before .before .before .before .before .before .before .before .before .before .before .before .before .clear-old-named .result)
-    (count-fits _ _ (known-bytes (c .before .before .before .before .before .before .before .before .before .before .before .before .before .before .before .before .before .before .before .args .w .now) (λ i. omega (arith, c .before .before .before .before .before .before .before .before .before .before .before .before .before .before .before .before .before .before .slice-known .given i))) (c .before .before .before .before .before .before .before .before .before .before .before .before .before .before .before .before .before .before .before .pre .0) _ (c .before .before .before .before .before .before .before .before .before .before .before .before .before .before .clear-old-named .ensures .3)) _ (c .before .before .before .before .topic-record .ensures .0) in (
-      c .before .before .before .before .before .before .before .before .clear-named .ensures .0,
+    let at-topic-record = c .before .before .before .before in
+    let at-clear-named = at-topic-record .before .before .before .before in
+    let at-clear-old-named = at-clear-named .before .before .before .before .before .before in
+    let known = at-clear-old-named .before .before in
+    let at-slice-known = known .before .before in
+    let start = at-slice-known .before in
+    let are-bytes = known-bytes (start .args .rec .now) (λ i. omega (arith, known .shared-slice-known .given i)) in
+    let count-fits-here = count-fits _ _ (known-bytes (start .args .w .now) (λ i. omega (arith, at-slice-known .slice-known .given i))) (start .pre .0) _
+    (at-clear-old-named .clear-old-named .ensures .3) in
+    let is = topic-is _ (start .pre .1) (start .pre .2) are-bytes (at-clear-old-named .clear-old-named .result)
+    count-fits-here _ (at-topic-record .topic-record .ensures .0) in (
+      at-clear-named .clear-named .ensures .0,
       is,
-      topic-kept _ (c .before .before .before .before .before .before .before .before .before .before .before .before .before .before .before .before .before .before .before .pre .1) (c .before .before .before .before .before .before .before .before .before .before .before .before .before .before .before .before .before .before .before .pre .2) (known-bytes (c .before .before .before .before .before .before .before .before .before .before .before .before .before .before .before .before .before .before .before .args .rec .now) (λ i. omega (arith, c .before .before .before .before .before .before .before .before .before .before .before .before .before .before .before .before .shared-slice-known .given i))) (c .before .before .before .before .before .before .before .before .before .before .before .before .before .before .clear-old-named .result)
-          (count-fits _ _ (known-bytes (c .before .before .before .before .before .before .before .before .before .before .before .before .before .before .before .before .before .before .before .args .w .now) (λ i. omega (arith, c .before .before .before .before .before .before .before .before .before .before .before .before .before .before .before .before .before .before .slice-known .given i))) (c .before .before .before .before .before .before .before .before .before .before .before .before .before .before .before .before .before .before .before .pre .0) _ (c .before .before .before .before .before .before .before .before .before .before .before .before .before .before .clear-old-named .ensures .3)) _ (c .before .before .before .before .topic-record .ensures .0),
-      omega (arith, record-size _ is, c .before .before .before .before .before .before .before .before .before .before .before .before .before .before .before .before .before .before .before .pre .3),
+      topic-kept _ (start .pre .1) (start .pre .2) are-bytes (at-clear-old-named .clear-old-named .result)
+          count-fits-here _ (at-topic-record .topic-record .ensures .0),
+      omega (arith, record-size _ is, start .pre .3),
     )
 
 same-length : tie.Need-same-length
@@ -57,10 +72,20 @@ same-length-2 c = search needs
 
 returns : tie.Need-returns
 returns c =
-    topic-moved _ (c .before .before .before .before .before .before .before .before .before .before .before .before .before .before .before .before .before .before .before .before .before .before .pre .1) (c .before .before .before .before .before .before .before .before .before .before .before .before .before .before .before .before .before .before .before .before .before .before .pre .2) (known-bytes (c .before .before .before .before .before .before .before .before .before .before .before .before .before .before .before .before .before .before .before .before .before .before .args .rec .now) (λ i. omega (arith, c .before .before .before .before .before .before .before .before .before .before .before .before .before .before .before .before .before .before .before .shared-slice-known .given i))) (c .before .before .before .before .before .before .before .before .before .before .before .before .before .before .before .before .before .clear-old-named .result)
-    (count-fits _ _ (known-bytes (c .before .before .before .before .before .before .before .before .before .before .before .before .before .before .before .before .before .before .before .before .before .before .args .w .now) (λ i. omega (arith, c .before .before .before .before .before .before .before .before .before .before .before .before .before .before .before .before .before .before .before .before .before .slice-known .given i))) (c .before .before .before .before .before .before .before .before .before .before .before .before .before .before .before .before .before .before .before .before .before .before .pre .0) _ (c .before .before .before .before .before .before .before .before .before .before .before .before .before .before .before .before .before .clear-old-named .ensures .3)) _ (c .before .before .before .before .before .before .before .topic-record .ensures .0) (c .before .before .before .before .before .before .before .before .before .before .before .before .before .before .before .before .before .before .before .before .before .before .args .w .now) _ _ _ _ _ refl (lent-value _ _ _ _ (c .before .before .before .before .before .before .before .before .before .before .before .before .before .before .value-at .ensures))
-    (record-size _ (topic-is _ (c .before .before .before .before .before .before .before .before .before .before .before .before .before .before .before .before .before .before .before .before .before .before .pre .1) (c .before .before .before .before .before .before .before .before .before .before .before .before .before .before .before .before .before .before .before .before .before .before .pre .2) (known-bytes (c .before .before .before .before .before .before .before .before .before .before .before .before .before .before .before .before .before .before .before .before .before .before .args .rec .now) (λ i. omega (arith, c .before .before .before .before .before .before .before .before .before .before .before .before .before .before .before .before .before .before .before .shared-slice-known .given i))) (c .before .before .before .before .before .before .before .before .before .before .before .before .before .before .before .before .before .clear-old-named .result)
-    (count-fits _ _ (known-bytes (c .before .before .before .before .before .before .before .before .before .before .before .before .before .before .before .before .before .before .before .before .before .before .args .w .now) (λ i. omega (arith, c .before .before .before .before .before .before .before .before .before .before .before .before .before .before .before .before .before .before .before .before .before .slice-known .given i))) (c .before .before .before .before .before .before .before .before .before .before .before .before .before .before .before .before .before .before .before .before .before .before .pre .0) _ (c .before .before .before .before .before .before .before .before .before .before .before .before .before .before .before .before .before .clear-old-named .ensures .3)) _ (c .before .before .before .before .before .before .before .topic-record .ensures .0))) (c .before .before .before .before .before .before .before .before .before .before .before .before .before .before .before .before .before .clear-old-named .ensures) (c .before .before .before .before .before .before .before .before .before .before .before .clear-named .ensures) (c .before .before .put-real .ensures)
+    let at-topic-record = c .before .before .before .before .before .before .before in
+    let at-clear-named = at-topic-record .before .before .before .before in
+    let at-value-at = at-clear-named .before .before .before in
+    let at-clear-old-named = at-value-at .before .before .before in
+    let known = at-clear-old-named .before .before in
+    let at-slice-known = known .before .before in
+    let start = at-slice-known .before in
+    let are-bytes = known-bytes (start .args .rec .now) (λ i. omega (arith, known .shared-slice-known .given i)) in
+    let count-fits-here = count-fits _ _ (known-bytes (start .args .w .now) (λ i. omega (arith, at-slice-known .slice-known .given i))) (start .pre .0) _
+    (at-clear-old-named .clear-old-named .ensures .3) in
+    topic-moved _ (start .pre .1) (start .pre .2) are-bytes (at-clear-old-named .clear-old-named .result)
+    count-fits-here _ (at-topic-record .topic-record .ensures .0) (start .args .w .now) _ _ _ _ _ refl (lent-value _ _ _ _ (at-value-at .value-at .ensures))
+    (record-size _ (topic-is _ (start .pre .1) (start .pre .2) are-bytes (at-clear-old-named .clear-old-named .result)
+    count-fits-here _ (at-topic-record .topic-record .ensures .0))) (at-clear-old-named .clear-old-named .ensures) (at-clear-named .clear-named .ensures) (c .before .before .put-real .ensures)
 
 pub put-topic-spec : {M : Type 1} → statement M
 put-topic-spec =

@@ -13,39 +13,54 @@ put-requires : tie.Need-put-requires
 put-requires c κs = search needs
 
 copy-in-requires : tie.Need-copy-in-requires
-copy-in-requires c κs = omega (arith, logged-size _ (c .before .before .before .before .before .before .pre .0) (c .before .before .before .before .before .before .pre .1), c .before .before .before .before .before .before .pre .2)
+copy-in-requires c κs =
+    let start = c .before .before .before .before .before .before in
+    omega (arith, logged-size _ (start .pre .0) (start .pre .1), start .pre .2)
 
 slice-aggregate-set-field : tie.Need-slice-aggregate-set-field
 slice-aggregate-set-field c = search needs
 
 set-field-requires : tie.Need-set-field-requires
-set-field-requires c κs = (
-  omega (arith, c .before .before .before .before .copy-in .ensures .0, c .before .before .before .before .copy-in .kept .0, logged-size _ (c .before .before .before .before .before .before .before .before .before .before .before .pre .0) (c .before .before .before .before .before .before .before .before .before .before .before .pre .1), c .before .before .before .before .before .before .before .before .before .before .before .pre .2),
-  omega arith,
-  copied-draft _ (c .before .before .before .before .before .before .before .before .before .before .before .pre .0) (c .before .before .before .before .before .before .before .before .before .before .before .pre .1) (c .before .before .before .before .copy-in .last .0) (c .before .before .before .before .copy-in .result) (c .before .before .before .before .copy-in .ensures .1),
-)
+set-field-requires c κs =
+    let at-copy-in = c .before .before .before .before in
+    let start = at-copy-in .before .before .before .before .before .before .before in (
+      omega (arith, at-copy-in .copy-in .ensures .0, at-copy-in .copy-in .kept .0, logged-size _ (start .pre .0) (start .pre .1), start .pre .2),
+      omega arith,
+      copied-draft _ (start .pre .0) (start .pre .1) (at-copy-in .copy-in .last .0) (at-copy-in .copy-in .result) (at-copy-in .copy-in .ensures .1),
+    )
 
 slice-aggregate-set-field-2 : tie.Need-slice-aggregate-set-field-2
 slice-aggregate-set-field-2 c = search needs
 
 set-field-requires-2 : tie.Need-set-field-requires-2
-set-field-requires-2 c κs = (
-  omega (arith, c .before .before .before .before .before .before .before .before .before .copy-in .ensures .0, c .before .before .before .before .before .before .before .before .before .copy-in .kept .0, c .before .before .before .before .set-field .ensures .1, c .before .before .before .before .set-field .kept .0, logged-size _ (c .before .before .before .before .before .before .before .before .before .before .before .before .before .before .before .before .pre .0) (c .before .before .before .before .before .before .before .before .before .before .before .before .before .before .before .before .pre .1), c .before .before .before .before .before .before .before .before .before .before .before .before .before .before .before .before .pre .2),
-  omega arith,
-  counted-draft _ (c .before .before .before .before .before .before .before .before .before .before .before .before .before .before .before .before .pre .0) (c .before .before .before .before .before .before .before .before .before .before .before .before .before .before .before .before .pre .1) (c .before .before .before .before .before .before .before .before .before .copy-in .last .0) (c .before .before .before .before .before .before .before .before .before .copy-in .result) (c .before .before .before .before .before .before .before .before .before .copy-in .ensures .1) (c .before .before .before .before .before .before .before .before .before .before .before .before .before .before .before .before .args .count) _ (c .before .before .before .before .before .before .before .before .before .before .before .before .put .ensures)
-      (c .before .before .before .before .set-field .last .0) (c .before .before .before .before .set-field .result) (c .before .before .before .before .set-field .ensures .0),
-)
+set-field-requires-2 c κs =
+    let at-set-field = c .before .before .before .before in
+    let at-copy-in = at-set-field .before .before .before .before .before in
+    let at-put = at-copy-in .before .before .before in
+    let start = at-put .before .before .before .before in (
+      omega (arith, at-copy-in .copy-in .ensures .0, at-copy-in .copy-in .kept .0, at-set-field .set-field .ensures .1, at-set-field .set-field .kept .0, logged-size _ (start .pre .0) (start .pre .1), start .pre .2),
+      omega arith,
+      counted-draft _ (start .pre .0) (start .pre .1) (at-copy-in .copy-in .last .0) (at-copy-in .copy-in .result) (at-copy-in .copy-in .ensures .1) (start .args .count) _ (at-put .put .ensures)
+          (at-set-field .set-field .last .0) (at-set-field .set-field .result) (at-set-field .set-field .ensures .0),
+    )
 
 same-length : tie.Need-same-length
 same-length c = search needs
 
 returns : tie.Need-returns
-returns c = (
-  topic-built _ (c .before .before .before .before .before .before .before .before .before .before .before .before .before .before .before .before .before .before .before .pre .0) (c .before .before .before .before .before .before .before .before .before .before .before .before .before .before .before .before .before .before .before .pre .1) (c .before .before .before .before .before .before .before .before .before .before .before .before .copy-in .last .0) (c .before .before .before .before .before .before .before .before .before .before .before .before .copy-in .result) (c .before .before .before .before .before .before .before .before .before .before .before .before .copy-in .ensures .1) (c .before .before .before .before .before .before .before .before .before .before .before .before .before .before .before .before .before .before .before .args .count) _ (c .before .before .before .before .before .before .before .before .before .before .before .before .before .before .before .put .ensures) (c .before .before .before .before .before .before .before .set-field .last .0)
-      (c .before .before .before .before .before .before .before .set-field .result) (c .before .before .before .before .before .before .before .set-field .ensures .0) (known-bytes (c .before .before .before .before .before .before .before .before .before .before .before .before .before .before .before .before .before .before .before .args .rec .now) (λ i. omega (arith, c .before .before .before .before .before .before .before .before .before .before .before .before .before .before .before .before .before .shared-slice-known .given i)))
-      (c .before .before .set-field2 .ensures .0),
-  omega (arith, c .before .before .before .before .before .before .before .before .before .before .before .before .copy-in .ensures .0, c .before .before .before .before .before .before .before .set-field .ensures .1, c .before .before .set-field2 .ensures .1, logged-size _ (c .before .before .before .before .before .before .before .before .before .before .before .before .before .before .before .before .before .before .before .pre .0) (c .before .before .before .before .before .before .before .before .before .before .before .before .before .before .before .before .before .before .before .pre .1), c .before .before .before .before .before .before .before .before .before .before .before .before .before .before .before .before .before .before .before .pre .2),
-)
+returns c =
+    let at-set-field2 = c .before .before in
+    let at-set-field = at-set-field2 .before .before .before .before .before in
+    let at-copy-in = at-set-field .before .before .before .before .before in
+    let at-put = at-copy-in .before .before .before in
+    let known = at-put .before .before in
+    let start = known .before .before in (
+      topic-built _ (start .pre .0) (start .pre .1) (at-copy-in .copy-in .last .0) (at-copy-in .copy-in .result) (at-copy-in .copy-in .ensures .1) (start .args .count) _
+          (at-put .put .ensures) (at-set-field .set-field .last .0)
+          (at-set-field .set-field .result) (at-set-field .set-field .ensures .0) (known-bytes (start .args .rec .now) (λ i. omega (arith, known .shared-slice-known .given i)))
+          (at-set-field2 .set-field2 .ensures .0),
+      omega (arith, at-copy-in .copy-in .ensures .0, at-set-field .set-field .ensures .1, at-set-field2 .set-field2 .ensures .1, logged-size _ (start .pre .0) (start .pre .1), start .pre .2),
+    )
 
 pub topic-record-spec : {M : Type 1} → statement M
 topic-record-spec =

@@ -15,10 +15,14 @@ use Rattle.apply_updates.proofs.set_elr.Tie as tie
 elr : (c : tie.After-elr-record)
     → IsRecord (take (c .elr-record .result) (c .elr-record .last .0)) × (recordIn (take (c .elr-record .result) (c .elr-record .last .0)) ≡ updatedElr (recordIn (c .before .before .before .before .before .before .before .before .before .args .rec .now) .run))
 elr c =
-    let g = c .before .before .before .before .before .before .before .before .before in
+    let at-has2 = c .before .before .before in
+    let at-if1 = at-has2 .before in
+    let at-has = at-if1 .before in
+    let known = at-has .before in
+    let g = known .before .before .before in
     let s = g .args .rec .now in
-    let are = known-bytes s (λ i. omega (arith, c .before .before .before .before .before .before .shared-slice-known .given i)) in
-    elr-is s (g .pre .1) are (c .before .before .before .before .before .has .ensures) (c .before .before .before .before .if1 .left) (c .before .before .before .has2 .ensures) (c .before .before .if2 .left) _ (c .elr-record .ensures .0)
+    let are = known-bytes s (λ i. omega (arith, known .shared-slice-known .given i)) in
+    elr-is s (g .pre .1) are (at-has .has .ensures) (at-if1 .if1 .left) (at-has2 .has2 .ensures) (c .before .before .if2 .left) _ (c .elr-record .ensures .0)
 
 has-requires : tie.Need-has-requires
 has-requires c κs = search needs
@@ -63,7 +67,8 @@ returns-3 : tie.Need-returns-3
 returns-3 c =
     let r = c .before .before .before .before .before .before .before in
     let run = recordIn (r .before .before .before .before .before .before .before .before .before .args .rec .now) .run in
-    elr-made run (c .before .before .set .ensures) (elr r .1) (r .before .before .before .before .before .has .ensures) (r .before .before .before .before .if1 .left) (r .before .before .before .has2 .ensures) (r .before .before .if2 .left)
+    elr-made run (c .before .before .set .ensures) (elr r .1) (r .before .before .before .before .before .has .ensures) (r .before .before .before .before .if1 .left)
+    (r .before .before .before .has2 .ensures) (r .before .before .if2 .left)
 
 pub set-elr-spec : {M : Type 1} → statement M
 set-elr-spec =

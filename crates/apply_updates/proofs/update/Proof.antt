@@ -62,8 +62,12 @@ same-length-2 c = search needs
 
 returns : tie.Need-returns
 returns c =
-    let p = c .before .before .before .before .before .before .before .before .before .before .before .before .before .before .before .before .before .before .before .before .before in
-    updated (recordIn (p .before .before .before .before .before .args .rec .now) .run) (partition p .1) (c .before .before .before .before .before .before .before .before .before .before .before .before .before .before .before .before .put-partition .ensures) (c .before .before .before .before .before .before .before .before .before .before .before .set-elr .ensures) (c .before .before .before .before .set-recovery .ensures)
+    let at-set-recovery = c .before .before .before .before in
+    let at-set-elr = at-set-recovery .before .before .before .before .before .before .before in
+    let at-put-partition = at-set-elr .before .before .before .before .before in
+    let p = at-put-partition .before .before .before .before .before in
+    updated (recordIn (p .before .before .before .before .before .args .rec .now) .run) (partition p .1) (at-put-partition .put-partition .ensures) (at-set-elr .set-elr .ensures)
+    (at-set-recovery .set-recovery .ensures)
 
 pub update-spec : {M : Type 1} → statement M
 update-spec =

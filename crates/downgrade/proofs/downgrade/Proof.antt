@@ -8,16 +8,24 @@ is-image-requires : tie.Need-is-image-requires
 is-image-requires c κs = search needs
 
 returns : tie.Need-returns
-returns c = no-image _ (c .before .before .before .before .args .level) (c .before .before .before .before .args .out .now) (c .before .is-image .ensures) (c .if1 .taken)
+returns c =
+    let start = c .before .before .before .before in
+    no-image _ (start .args .level) (start .args .out .now) (c .before .is-image .ensures) (c .if1 .taken)
 
 emit-listed-requires : tie.Need-emit-listed-requires
-emit-listed-requires c κs = image-is _ (c .before .before .before .before .before .args .level) (c .before .before .before .before .before .args .out .now) (c .before .before .is-image .ensures) (c .before .if1 .left)
+emit-listed-requires c κs =
+    let start = c .before .before .before .before .before in
+    image-is _ (start .args .level) (start .args .out .now) (c .before .before .is-image .ensures) (c .before .if1 .left)
 
 same-length : tie.Need-same-length
 same-length c = search needs
 
 returns-2 : tie.Need-returns-2
-returns-2 c = said _ (c .before .before .before .before .before .before .before .before .args .level) (c .before .before .before .before .before .before .before .before .args .out .now) (c .before .before .before .before .before .is-image .ensures) (c .before .before .before .before .if1 .left) (c .before .before .emit-listed .ensures)
+returns-2 c =
+    let at-if1 = c .before .before .before .before in
+    let at-is-image = at-if1 .before in
+    let start = at-is-image .before .before .before in
+    said _ (start .args .level) (start .args .out .now) (at-is-image .is-image .ensures) (at-if1 .if1 .left) (c .before .before .emit-listed .ensures)
 
 pub downgrade-spec : {M : Type 1} → statement M
 downgrade-spec =

@@ -18,10 +18,15 @@ part-listed-length-end : tie.Need-part-listed-length-end
 part-listed-length-end c = search needs
 
 listed-length-requires : tie.Need-listed-length-requires
-listed-length-requires c κs = (lent-entries (c .before .before .before .before .args .image .now) (c .before .reals-end .ensures), lent-short (c .before .before .before .before .args .image .now) (c .before .reals-end .ensures) (c .before .before .before .before .pre))
+listed-length-requires c κs =
+    let start = c .before .before .before .before in
+    (lent-entries (start .args .image .now) (c .before .reals-end .ensures), lent-short (start .args .image .now) (c .before .reals-end .ensures) (start .pre))
 
 returns : tie.Need-returns
-returns c = too-short (c .before .before .before .before .before .before .args .image .now) (c .before .before .before .reals-end .ensures) (c .before .before .before .before .before .before .args .level) (c .before .before .before .before .before .before .args .out .now) (c .before .listed-length .ensures) (c .if1 .taken)
+returns c =
+    let at-reals-end = c .before .before .before in
+    let start = at-reals-end .before .before .before in
+    too-short (start .args .image .now) (at-reals-end .reals-end .ensures) (start .args .level) (start .args .out .now) (c .before .listed-length .ensures) (c .if1 .taken)
 
 sub-put-entries : tie.Need-sub-put-entries
 sub-put-entries c = search needs
@@ -33,13 +38,25 @@ part-put-entries-end : tie.Need-part-put-entries-end
 part-put-entries-end c = search needs
 
 put-entries-requires : tie.Need-put-entries-requires
-put-entries-requires c κs = (lent-entries (c .before .before .before .before .before .before .before .before .args .image .now) (c .before .before .before .before .before .reals-end .ensures), fits (c .before .before .before .before .before .before .before .before .args .image .now) (c .before .before .before .before .before .reals-end .ensures) (c .before .before .before .before .before .before .before .before .args .level) (c .before .before .before .before .before .before .before .before .args .out .now) (c .before .before .before .listed-length .ensures) (c .before .before .if1 .left))
+put-entries-requires c κs =
+    let at-listed-length = c .before .before .before in
+    let at-reals-end = at-listed-length .before .before in
+    let start = at-reals-end .before .before .before in (
+      lent-entries (start .args .image .now) (at-reals-end .reals-end .ensures),
+      fits (start .args .image .now) (at-reals-end .reals-end .ensures) (start .args .level) (start .args .out .now) (at-listed-length .listed-length .ensures) (c .before .before .if1 .left),
+    )
 
 same-length : tie.Need-same-length
 same-length c = search needs
 
 returns-2 : tie.Need-returns-2
-returns-2 c = emitted (c .before .before .before .before .before .before .before .before .before .before .before .args .image .now) (c .before .before .before .before .before .before .before .before .reals-end .ensures) (c .before .before .before .before .before .before .before .before .before .before .before .args .level) (c .before .before .before .before .before .before .before .before .before .before .before .args .out .now) (c .before .before .before .before .before .before .listed-length .ensures) (c .before .before .before .before .before .if1 .left) (c .before .before .put-entries .ensures)
+returns-2 c =
+    let at-if1 = c .before .before .before .before .before in
+    let at-listed-length = at-if1 .before in
+    let at-reals-end = at-listed-length .before .before in
+    let start = at-reals-end .before .before .before in
+    emitted (start .args .image .now) (at-reals-end .reals-end .ensures) (start .args .level) (start .args .out .now) (at-listed-length .listed-length .ensures) (at-if1 .if1 .left)
+    (c .before .before .put-entries .ensures)
 
 pub emit-listed-spec : {M : Type 1} → statement M
 emit-listed-spec =

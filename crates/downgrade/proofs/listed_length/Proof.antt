@@ -35,7 +35,9 @@ bytes-in c = known-bytes (c .before .before .before .args .s .now) (λ i. omega 
 entry : (c : tie.After-start Inv-loop μ-loop)
     → (let g = c .start .given .0 in
     Stands (c .before .before .before .before .before .args .s .now) (c .before .before .before .loop .c .at) (g .0) (g .1 .0) (g .1 .1 .0))
-entry c = stands _ (bytes-in (c .before .before)) _ (c .before .before .before .loop .inv .entries) (c .before .before .next .ensures) (c .start .given .1)
+entry c =
+    let at-next = c .before .before in
+    stands _ (bytes-in at-next) _ (c .before .before .before .loop .inv .entries) (at-next .next .ensures) (c .start .given .1)
 
 sub-listed-size : tie.Need-sub-listed-size Inv-loop μ-loop
 sub-listed-size c = forward (entry (c .before))
@@ -62,13 +64,18 @@ enum-told : tie.Need-enum-told Inv-loop μ-loop
 enum-told c = search needs
 
 returns : tie.Need-returns Inv-loop μ-loop
-returns c = not-torn _ (bytes-in (c .before .before)) _ (c .before .before .before .loop .inv .entries) (c .before .before .next .ensures) (c .enum-told .given .1)
+returns c =
+    let at-next = c .before .before in
+    not-torn _ (bytes-in at-next) _ (c .before .before .before .loop .inv .entries) (at-next .next .ensures) (c .enum-told .given .1)
 
 enum-told-2 : tie.Need-enum-told-2 Inv-loop μ-loop
 enum-told-2 c = search needs
 
 returns-2 : tie.Need-returns-2 Inv-loop μ-loop
-returns-2 c = counted (c .before .before .before .loop .inv) (ended _ (bytes-in (c .before .before)) _ (c .before .before .before .loop .inv .entries) (c .before .before .next .ensures) (c .enum-told2 .given .1))
+returns-2 c =
+    let at-next = c .before .before in
+    let at-loop = at-next .before in
+    counted (at-loop .loop .inv) (ended _ (bytes-in at-next) _ (at-loop .loop .inv .entries) (at-next .next .ensures) (c .enum-told2 .given .1))
 
 pub listed-length-spec : {M : Type 1} → statement M
 listed-length-spec =

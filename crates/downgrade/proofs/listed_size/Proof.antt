@@ -26,13 +26,18 @@ is-under-requires : tie.Need-is-under-requires
 is-under-requires c κs = search needs
 
 returns-3 : tie.Need-returns-3
-returns-3 c = listed-size _ _ (of-known _ (c .before .before .before .before .before .before .before .pre) _ (c .before .before .if2 .left) (c .before .is-under .ensures) (c .if3 .taken)) refl (omega arith)
+returns-3 c =
+    listed-size _ _ (of-known _ (c .before .before .before .before .before .before .before .pre) _ (c .before .before .if2 .left) (c .before .is-under .ensures) (c .if3 .taken)) refl (omega arith)
 
 assignments-size-requires : tie.Need-assignments-size-requires
 assignments-size-requires c κs = search needs
 
 returns-4 : tie.Need-returns-4
-returns-4 c = listed-size _ _ (of-partition _ (c .before .before .before .before .before .before .before .before .pre) _ (c .before .before .before .if2 .left) (c .before .before .is-under .ensures) (c .before .if3 .left)) (c .assignments-size .ensures .0) (c .assignments-size .ensures .1)
+returns-4 c =
+    let at-if2 = c .before .before .before in
+    let start = at-if2 .before .before .before .before .before in
+    listed-size _ _ (of-partition _ (start .pre) _ (at-if2 .if2 .left) (c .before .before .is-under .ensures) (c .before .if3 .left)) (c .assignments-size .ensures .0)
+    (c .assignments-size .ensures .1)
 
 pub listed-size-spec : {M : Type 1} → statement M
 listed-size-spec =

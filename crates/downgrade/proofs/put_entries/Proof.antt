@@ -19,7 +19,9 @@ abbrev μ-loop : tie.MeasureT-loop
 μ-loop out₀ s level c₀ n₀ out c n = length s - c .at
 
 loop-holds : tie.Need-loop-holds Inv-loop μ-loop
-loop-holds c = write-start _ _ _ (c .before .before .pre .0) (c .before .before .pre .1)
+loop-holds c =
+    let start = c .before .before in
+    write-start _ _ _ (start .pre .0) (start .pre .1)
 
 next-requires : tie.Need-next-requires Inv-loop μ-loop
 next-requires c κs = search needs
@@ -35,25 +37,36 @@ bytes-in c = known-bytes (c .before .before .before .before .args .s .now) (λ i
 entry : (c : tie.After-start Inv-loop μ-loop)
     → (let g = c .start .given .0 in
     Stands (c .before .before .before .before .before .before .args .s .now) (c .before .before .before .loop .c .at) (g .0) (g .1 .0) (g .1 .1 .0))
-entry c = stands _ (bytes-in (c .before .before)) _ (c .before .before .before .loop .inv .entries) (c .before .before .next .ensures) (c .start .given .1)
+entry c =
+    let at-next = c .before .before in
+    stands _ (bytes-in at-next) _ (c .before .before .before .loop .inv .entries) (at-next .next .ensures) (c .start .given .1)
 
 sub-put-listed : tie.Need-sub-put-listed Inv-loop μ-loop
 sub-put-listed c = forward (entry (c .before .before))
 
 part-put-listed-start : tie.Need-part-put-listed-start Inv-loop μ-loop
-part-put-listed-start c = omega (arith, forward (entry (c .before .before)), inside (entry (c .before .before)))
+part-put-listed-start c =
+    let here = c .before .before in
+    omega (arith, forward (entry here), inside (entry here))
 
 part-put-listed-end : tie.Need-part-put-listed-end Inv-loop μ-loop
-part-put-listed-end c = omega (arith, forward (entry (c .before .before)), inside (entry (c .before .before)))
+part-put-listed-end c =
+    let here = c .before .before in
+    omega (arith, forward (entry here), inside (entry here))
 
 put-listed-requires : tie.Need-put-listed-requires Inv-loop μ-loop
-put-listed-requires c κs = (is-record (entry (c .before .before .before)), entry-fits (c .before .before .before .before .before .before .loop .inv) (entry (c .before .before .before)))
+put-listed-requires c κs =
+    let here = c .before .before .before in
+    (is-record (entry here), entry-fits (c .before .before .before .before .before .before .loop .inv) (entry here))
 
 loop-less : tie.Need-loop-less Inv-loop μ-loop
 loop-less c = turn-falls _ _ _ _ _ (entry (c .before .before .before .before .before .before))
 
 loop-again : tie.Need-loop-again Inv-loop μ-loop
-loop-again c = write-turn (c .before .before .before .before .before .before .before .before .before .loop .inv) (entry (c .before .before .before .before .before .before)) (c .before .before .put-listed .ensures)
+loop-again c =
+    let here = c .before .before .before .before .before .before in
+    let at-loop = here .before .before .before in
+    write-turn (at-loop .loop .inv) (entry here) (c .before .before .put-listed .ensures)
 
 enum-told : tie.Need-enum-told Inv-loop μ-loop
 enum-told c = search needs
@@ -62,7 +75,9 @@ same-length : tie.Need-same-length Inv-loop μ-loop
 same-length c = grown-length (c .before .before .before .loop .inv .grows)
 
 returns : tie.Need-returns Inv-loop μ-loop
-returns c = not-torn _ (bytes-in (c .before .before)) _ (c .before .before .before .loop .inv .entries) (c .before .before .next .ensures) (c .enum-told .given .1)
+returns c =
+    let at-next = c .before .before in
+    not-torn _ (bytes-in at-next) _ (c .before .before .before .loop .inv .entries) (at-next .next .ensures) (c .enum-told .given .1)
 
 enum-told-2 : tie.Need-enum-told-2 Inv-loop μ-loop
 enum-told-2 c = search needs
@@ -71,7 +86,10 @@ same-length-2 : tie.Need-same-length-2 Inv-loop μ-loop
 same-length-2 c = grown-length (c .before .before .before .loop .inv .grows)
 
 returns-2 : tie.Need-returns-2 Inv-loop μ-loop
-returns-2 c = wrote (c .before .before .before .loop .inv) (ended _ (bytes-in (c .before .before)) _ (c .before .before .before .loop .inv .entries) (c .before .before .next .ensures) (c .enum-told2 .given .1))
+returns-2 c =
+    let at-next = c .before .before in
+    let at-loop = at-next .before in
+    wrote (at-loop .loop .inv) (ended _ (bytes-in at-next) _ (at-loop .loop .inv .entries) (at-next .next .ensures) (c .enum-told2 .given .1))
 
 pub put-entries-spec : {M : Type 1} → statement M
 put-entries-spec =

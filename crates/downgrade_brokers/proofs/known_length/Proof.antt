@@ -31,13 +31,21 @@ known-size-requires : tie.Need-known-size-requires Inv-loop μ-loop
 known-size-requires c κs = step (c .before) .short
 
 add-n : tie.Need-add-n Inv-loop μ-loop
-add-n c = let fits = count-fits (c .before .before .before .before .before .loop .inv) (step (c .before .before)) (took _ (c .before .before .before .before .next .ensures .0) (c .before .before .tag .given .1)) (c .known-size .ensures) in omega arith
+add-n c =
+    let at-tag = c .before .before in
+    let at-next = at-tag .before .before in
+    let at-loop = at-next .before in
+    let fits = count-fits (at-loop .loop .inv) (step at-tag) (took _ (at-next .next .ensures .0) (at-tag .tag .given .1)) (c .known-size .ensures) in omega arith
 
 loop-less : tie.Need-loop-less Inv-loop μ-loop
 loop-less c = falls (c .before .before .before .before .before .loop .inv .ahead) (step (c .before .before))
 
 loop-again : tie.Need-loop-again Inv-loop μ-loop
-loop-again c = count-turn (c .before .before .before .before .before .loop .inv) (step (c .before .before)) (took _ (c .before .before .before .before .next .ensures .0) (c .before .before .tag .given .1)) (c .known-size .ensures)
+loop-again c =
+    let at-tag = c .before .before in
+    let at-next = at-tag .before .before in
+    let at-loop = at-next .before in
+    count-turn (at-loop .loop .inv) (step at-tag) (took _ (at-next .next .ensures .0) (at-tag .tag .given .1)) (c .known-size .ensures)
 
 enum-told : tie.Need-enum-told Inv-loop μ-loop
 enum-told c = search needs

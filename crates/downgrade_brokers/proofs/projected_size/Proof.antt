@@ -11,16 +11,25 @@ gone-tag-requires : tie.Need-gone-tag-requires
 gone-tag-requires c κs = search needs
 
 known-length-requires : tie.Need-known-length-requires
-known-length-requires c κs = may-know _ (c .before .before .before .pre .0) (c .before .before .before .pre .1)
+known-length-requires c κs =
+    let start = c .before .before .before in
+    may-know _ (start .pre .0) (start .pre .1)
 
 add-size : tie.Need-add-size
 add-size c = search needs
 
 returns : tie.Need-returns
-returns c = other-size _ (c .before .before .before .before .before .pre .0) (c .before .before .before .before .before .pre .1) (c .before .before .before .before .before .args .level) (c .before .before .before .empty-tag .ensures) (c .before .before .gone-tag .ensures) (c .before .known-length .ensures .0) (c .if1 .taken)
+returns c =
+    let at-empty-tag = c .before .before .before in
+    let start = at-empty-tag .before .before in
+    other-size _ (start .pre .0) (start .pre .1) (start .args .level) (at-empty-tag .empty-tag .ensures) (c .before .before .gone-tag .ensures) (c .before .known-length .ensures .0) (c .if1 .taken)
 
 returns-2 : tie.Need-returns-2
-returns-2 c = own-size _ (c .before .before .before .before .before .pre .0) (c .before .before .before .before .before .pre .1) (c .before .before .before .before .before .args .level) (c .before .before .before .empty-tag .ensures) (c .before .before .gone-tag .ensures) (c .before .known-length .ensures .0) (c .if1 .left) (c .before .known-length .ensures .1)
+returns-2 c =
+    let at-empty-tag = c .before .before .before in
+    let start = at-empty-tag .before .before in
+    own-size _ (start .pre .0) (start .pre .1) (start .args .level) (at-empty-tag .empty-tag .ensures) (c .before .before .gone-tag .ensures) (c .before .known-length .ensures .0)
+    (c .if1 .left) (c .before .known-length .ensures .1)
 
 pub projected-size-spec : {M : Type 1} → statement M
 projected-size-spec =

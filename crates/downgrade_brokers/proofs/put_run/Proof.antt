@@ -15,7 +15,9 @@ abbrev μ-loop : tie.MeasureT-loop
 μ-loop out₀ at s empty gone c₀ to₀ out c to = c .to - c .at
 
 loop-holds : tie.Need-loop-holds Inv-loop μ-loop
-loop-holds c = write-start _ _ _ _ _ (c .before .before .pre .0) (c .before .before .pre .1) (c .before .before .pre .2)
+loop-holds c =
+    let start = c .before .before in
+    write-start _ _ _ _ _ (start .pre .0) (start .pre .1) (start .pre .2)
 
 next-requires : tie.Need-next-requires Inv-loop μ-loop
 next-requires c κs = inside (c .loop .inv .ahead)
@@ -41,13 +43,21 @@ part-put-known-end : tie.Need-part-put-known-end Inv-loop μ-loop
 part-put-known-end c = omega (arith, ends-inside (c .before .before .before .before .before .loop .inv .ahead) (step (c .before .before)))
 
 put-known-requires : tie.Need-put-known-requires Inv-loop μ-loop
-put-known-requires c κs = (step (c .before .before .before) .byte, known-fits (c .before .before .before .before .before .before .loop .inv) (step (c .before .before .before)) (took _ (c .before .before .before .before .before .next .ensures .0) (c .before .before .before .tag .given .1)))
+put-known-requires c κs =
+    let at-tag = c .before .before .before in
+    let at-next = at-tag .before .before in
+    let at-loop = at-next .before in
+    (step at-tag .byte, known-fits (at-loop .loop .inv) (step at-tag) (took _ (at-next .next .ensures .0) (at-tag .tag .given .1)))
 
 loop-less : tie.Need-loop-less Inv-loop μ-loop
 loop-less c = falls (c .before .before .before .before .before .before .before .before .before .loop .inv .ahead) (step (c .before .before .before .before .before .before))
 
 loop-again : tie.Need-loop-again Inv-loop μ-loop
-loop-again c = write-turn (c .before .before .before .before .before .before .before .before .before .loop .inv) (step (c .before .before .before .before .before .before)) (took _ (c .before .before .before .before .before .before .before .before .next .ensures .0) (c .before .before .before .before .before .before .tag .given .1)) (c .before .before .put-known .ensures)
+loop-again c =
+    let at-tag = c .before .before .before .before .before .before in
+    let at-next = at-tag .before .before in
+    let at-loop = at-next .before in
+    write-turn (at-loop .loop .inv) (step at-tag) (took _ (at-next .next .ensures .0) (at-tag .tag .given .1)) (c .before .before .put-known .ensures)
 
 enum-told : tie.Need-enum-told Inv-loop μ-loop
 enum-told c = search needs

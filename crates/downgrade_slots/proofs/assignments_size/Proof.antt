@@ -25,7 +25,11 @@ sub-size-2 : tie.Need-sub-size-2
 sub-size-2 c = search needs
 
 add-size-2 : tie.Need-add-size-2
-add-size-2 c = omega (arith, size-fits _ (c .before .before .before .before .before .before .pre .0) (c .before .before .before .before .before .before .pre .1) _ _ _ _ (c .before .before .before .before .value-at .ensures) (c .before .before .before .value-at2 .ensures))
+add-size-2 c =
+    let at-value-at2 = c .before .before .before in
+    let at-value-at = at-value-at2 .before in
+    let start = at-value-at .before .before in
+    omega (arith, size-fits _ (start .pre .0) (start .pre .1) _ _ _ _ (at-value-at .value-at .ensures) (at-value-at2 .value-at2 .ensures))
 
 sub-slots-size : tie.Need-sub-slots-size
 sub-slots-size c = search needs
@@ -40,10 +44,24 @@ slot-count-requires : tie.Need-slot-count-requires
 slot-count-requires c κs = headed _ (c .before .before .before .before .before .before .before .pre .0)
 
 slots-size-requires : tie.Need-slots-size-requires
-slots-size-requires c κs = (may-count _ (c .before .before .before .before .before .before .before .before .pre .0) (c .before .before .before .before .before .before .before .before .pre .1) _ _ _ _ _ _ (c .before .before .before .before .before .before .value-at .ensures) (c .before .before .before .before .before .value-at2 .ensures) (c .before .before .before .before .value-at3 .ensures) (c .slot-count .ensures) .0, may-count _ (c .before .before .before .before .before .before .before .before .pre .0) (c .before .before .before .before .before .before .before .before .pre .1) _ _ _ _ _ _ (c .before .before .before .before .before .before .value-at .ensures) (c .before .before .before .before .before .value-at2 .ensures) (c .before .before .before .before .value-at3 .ensures) (c .slot-count .ensures) .1, omega (arith, size-fits _ (c .before .before .before .before .before .before .before .before .pre .0) (c .before .before .before .before .before .before .before .before .pre .1) _ _ _ _ (c .before .before .before .before .before .before .value-at .ensures) (c .before .before .before .before .before .value-at2 .ensures)))
+slots-size-requires c κs =
+    let at-value-at3 = c .before .before .before .before in
+    let at-value-at2 = at-value-at3 .before in
+    let at-value-at = at-value-at2 .before in
+    let start = at-value-at .before .before in (
+      may-count _ (start .pre .0) (start .pre .1) _ _ _ _ _ _ (at-value-at .value-at .ensures) (at-value-at2 .value-at2 .ensures) (at-value-at3 .value-at3 .ensures) (c .slot-count .ensures) .0,
+      may-count _ (start .pre .0) (start .pre .1) _ _ _ _ _ _ (at-value-at .value-at .ensures) (at-value-at2 .value-at2 .ensures) (at-value-at3 .value-at3 .ensures) (c .slot-count .ensures) .1,
+      omega (arith, size-fits _ (start .pre .0) (start .pre .1) _ _ _ _ (at-value-at .value-at .ensures) (at-value-at2 .value-at2 .ensures)),
+    )
 
 returns : tie.Need-returns
-returns c = all-size _ (c .before .before .before .before .before .before .before .before .before .pre .0) (c .before .before .before .before .before .before .before .before .before .pre .1) _ _ _ _ _ _ (c .before .before .before .before .before .before .before .value-at .ensures) (c .before .before .before .before .before .before .value-at2 .ensures) (c .before .before .before .before .before .value-at3 .ensures) (c .before .slot-count .ensures) (c .slots-size .ensures)
+returns c =
+    let at-value-at3 = c .before .before .before .before .before in
+    let at-value-at2 = at-value-at3 .before in
+    let at-value-at = at-value-at2 .before in
+    let start = at-value-at .before .before in
+    all-size _ (start .pre .0) (start .pre .1) _ _ _ _ _ _ (at-value-at .value-at .ensures) (at-value-at2 .value-at2 .ensures) (at-value-at3 .value-at3 .ensures)
+    (c .before .slot-count .ensures) (c .slots-size .ensures)
 
 pub assignments-size-spec : {M : Type 1} → statement M
 assignments-size-spec =

@@ -57,13 +57,29 @@ part-put-slots-end-4 : tie.Need-part-put-slots-end-4
 part-put-slots-end-4 c = search needs
 
 put-slots-requires : tie.Need-put-slots-requires
-put-slots-requires c κs = may-put _ (c .before .before .before .before .before .before .before .before .before .before .before .before .pre .0) (c .before .before .before .before .before .before .before .before .before .before .before .before .pre .1) _ _ _ _ _ _ (c .before .before .before .before .before .before .before .before .before .value-at .ensures) (c .before .before .before .before .before .before .before .before .value-at2 .ensures) (c .before .before .before .before .before .before .value-at4 .ensures) (c .before .before .before .before .slot-count .ensures) _ _ (c .before .before .before .before .before .before .before .value-at3 .ensures) (c .before .before .before .before .before .before .before .before .before .before .before .before .args .out .now) _ (c .before .before .before .before .before .before .before .before .before .before .before .before .pre .2)
+put-slots-requires c κs =
+    let at-slot-count = c .before .before .before .before in
+    let at-value-at4 = at-slot-count .before .before in
+    let at-value-at3 = at-value-at4 .before in
+    let at-value-at2 = at-value-at3 .before in
+    let at-value-at = at-value-at2 .before in
+    let start = at-value-at .before .before .before in
+    may-put _ (start .pre .0) (start .pre .1) _ _ _ _ _ _ (at-value-at .value-at .ensures) (at-value-at2 .value-at2 .ensures) (at-value-at4 .value-at4 .ensures)
+    (at-slot-count .slot-count .ensures) _ _ (at-value-at3 .value-at3 .ensures) (start .args .out .now) _ (start .pre .2)
 
 same-length : tie.Need-same-length
 same-length c = search needs
 
 returns : tie.Need-returns
-returns c = all-put _ (c .before .before .before .before .before .before .before .before .before .before .before .before .before .before .before .pre .0) (c .before .before .before .before .before .before .before .before .before .before .before .before .before .before .before .pre .1) _ _ _ _ _ _ (c .before .before .before .before .before .before .before .before .before .before .before .before .value-at .ensures) (c .before .before .before .before .before .before .before .before .before .before .before .value-at2 .ensures) (c .before .before .before .before .before .before .before .before .before .value-at4 .ensures) (c .before .before .before .before .before .before .before .slot-count .ensures) _ _ (c .before .before .before .before .before .before .before .before .before .before .value-at3 .ensures) (c .before .before .before .before .before .before .before .before .before .before .before .before .before .before .before .args .out .now) (c .before .before .before .before .before .before .before .before .before .before .before .before .before .before .before .args .at) (c .before .before .put-slots .ensures)
+returns c =
+    let at-slot-count = c .before .before .before .before .before .before .before in
+    let at-value-at4 = at-slot-count .before .before in
+    let at-value-at3 = at-value-at4 .before in
+    let at-value-at2 = at-value-at3 .before in
+    let at-value-at = at-value-at2 .before in
+    let start = at-value-at .before .before .before in
+    all-put _ (start .pre .0) (start .pre .1) _ _ _ _ _ _ (at-value-at .value-at .ensures) (at-value-at2 .value-at2 .ensures) (at-value-at4 .value-at4 .ensures)
+    (at-slot-count .slot-count .ensures) _ _ (at-value-at3 .value-at3 .ensures) (start .args .out .now) (start .args .at) (c .before .before .put-slots .ensures)
 
 pub put-assignments-spec : {M : Type 1} → statement M
 put-assignments-spec =

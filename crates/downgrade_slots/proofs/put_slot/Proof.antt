@@ -31,24 +31,30 @@ slice-aggregate-put-assignment c = search needs
 
 put-assignment-requires : tie.Need-put-assignment-requires
 put-assignment-requires c κs =
-    let start = c .before .before .before .before .before .before .before .before .before .before .before .before in
+    let at-put = c .before .before .before in
+    let at-if1 = at-put .before .before in
+    let at-same = at-if1 .before in
+    let start = at-same .before .before .before .before .before .before in
     let a = start .args in
-    let fits = slot-fits (a .name .now) (a .number .now) (bytes 8 (a .node .0)) (a .dir .now) (c .before .before .before .before .before .before .same .ensures) (a .out .now) _ (c .before .before .before .before .before .if1 .left) (start .pre) in
-    subst (λ v. a .at + length (recordBytes (assigning (a .name .now) (a .number .now) v)) ≤ length (a .out .now)) (sym (c .before .before .before .put .ensures)) fits
+    let fits = slot-fits (a .name .now) (a .number .now) (bytes 8 (a .node .0)) (a .dir .now) (at-same .same .ensures) (a .out .now) _ (at-if1 .if1 .left) (start .pre) in
+    subst (λ v. a .at + length (recordBytes (assigning (a .name .now) (a .number .now) v)) ≤ length (a .out .now)) (sym (at-put .put .ensures)) fits
 
 same-length : tie.Need-same-length
 same-length c = search needs
 
 returns-2 : tie.Need-returns-2
 returns-2 c =
-    let start = c .before .before .before .before .before .before .before .before .before .before .before .before .before .before .before in
+    let at-put = c .before .before .before .before .before .before in
+    let at-if1 = at-put .before .before in
+    let at-same = at-if1 .before in
+    let start = at-same .before .before .before .before .before .before in
     let a = start .args in
     let put = c .before .before .put-assignment in
     let said = subst
     (λ v. (put .result ≡ a .at + length (recordBytes (assigning (a .name .now) (a .number .now) v))) ×
     (put .last .0 ≡ putAt (a .out .now) (a .at) (recordBytes (assigning (a .name .now) (a .number .now) v))))
-    (c .before .before .before .before .before .before .put .ensures) (put .ensures) in
-    slot-put (a .name .now) (a .number .now) (bytes 8 (a .node .0)) (a .dir .now) (c .before .before .before .before .before .before .before .before .before .same .ensures) (a .out .now) _ (c .before .before .before .before .before .before .before .before .if1 .left) said
+    (at-put .put .ensures) (put .ensures) in
+    slot-put (a .name .now) (a .number .now) (bytes 8 (a .node .0)) (a .dir .now) (at-same .same .ensures) (a .out .now) _ (at-if1 .if1 .left) said
 
 pub put-slot-spec : {M : Type 1} → statement M
 put-slot-spec =

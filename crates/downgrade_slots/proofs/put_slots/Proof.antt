@@ -39,10 +39,14 @@ part-put-slot-end c = omega arith
 
 put-slot-requires : tie.Need-put-slot-requires Inv-loop μ-loop
 put-slot-requires c κs =
-    let nodes = c .before .before .before .before .before .before .before .before .before .before .args .nodes .now in
-    let are = known-bytes nodes (λ i. omega (arith, c .before .before .before .before .before .before .shared-slice-known3 .given i)) in
-    let node = node-lent nodes are (c .before .before .before .before .loop .i) (omega (arith, c .before .before .before .before .before .before .before .before .before .before .pre .0, c .before .before .before .loop-test .taken)) (c .before .before .get .ensures .0) in
-    slot-room (c .before .before .before .before .loop .inv) (c .before .before .before .loop-test .taken) node
+    let at-loop-test = c .before .before .before in
+    let at-loop = at-loop-test .before in
+    let at-shared-slice-known3 = at-loop .before .before in
+    let start = at-shared-slice-known3 .before .before .before .before in
+    let nodes = start .args .nodes .now in
+    let are = known-bytes nodes (λ i. omega (arith, at-shared-slice-known3 .shared-slice-known3 .given i)) in
+    let node = node-lent nodes are (at-loop .loop .i) (omega (arith, start .pre .0, at-loop-test .loop-test .taken)) (c .before .before .get .ensures .0) in
+    slot-room (at-loop .loop .inv) (at-loop-test .loop-test .taken) node
 
 add-i : tie.Need-add-i Inv-loop μ-loop
 add-i c = omega arith
@@ -52,10 +56,15 @@ loop-less c = omega arith
 
 loop-again : tie.Need-loop-again Inv-loop μ-loop
 loop-again c =
-    let nodes = c .before .before .before .before .before .before .before .before .before .before .before .before .before .args .nodes .now in
-    let are = known-bytes nodes (λ i. omega (arith, c .before .before .before .before .before .before .before .before .before .shared-slice-known3 .given i)) in
-    let node = node-lent nodes are (c .before .before .before .before .before .before .before .loop .i) (omega (arith, c .before .before .before .before .before .before .before .before .before .before .before .before .before .pre .0, c .before .before .before .before .before .before .loop-test .taken)) (c .before .before .before .before .before .get .ensures .0) in
-    write-turn (c .before .before .before .before .before .before .before .loop .inv) (c .before .before .before .before .before .before .loop-test .taken) node (c .before .before .put-slot .ensures)
+    let at-get = c .before .before .before .before .before in
+    let at-loop-test = at-get .before in
+    let at-loop = at-loop-test .before in
+    let at-shared-slice-known3 = at-loop .before .before in
+    let start = at-shared-slice-known3 .before .before .before .before in
+    let nodes = start .args .nodes .now in
+    let are = known-bytes nodes (λ i. omega (arith, at-shared-slice-known3 .shared-slice-known3 .given i)) in
+    let node = node-lent nodes are (at-loop .loop .i) (omega (arith, start .pre .0, at-loop-test .loop-test .taken)) (at-get .get .ensures .0) in
+    write-turn (at-loop .loop .inv) (at-loop-test .loop-test .taken) node (c .before .before .put-slot .ensures)
 
 same-length : tie.Need-same-length Inv-loop μ-loop
 same-length c = grown-length (c .before .loop .inv .grows)

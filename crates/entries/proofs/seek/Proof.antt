@@ -33,7 +33,9 @@ bytes-in c = known-bytes (c .before .before .before .before .args .s .now) (λ i
 -- the entry that a step found
 entry : (c : tie.After-start Inv-loop μ-loop)
     → Stands (c .before .before .before .before .before .before .args .s .now) (c .before .before .before .loop .c .at) (c .start .given .0 .0) (c .start .given .0 .1 .0) (c .start .given .0 .1 .1 .0)
-entry c = stands _ (bytes-in (c .before .before)) _ (c .before .before .before .loop .inv .entries) (c .before .before .next .ensures) (c .start .given .1)
+entry c =
+    let at-next = c .before .before in
+    stands _ (bytes-in at-next) _ (c .before .before .before .loop .inv .entries) (at-next .next .ensures) (c .start .given .1)
 
 sub-compare-keys : tie.Need-sub-compare-keys Inv-loop μ-loop
 sub-compare-keys c = let t = entry (c .before) in omega (arith, t .first, t .last)
@@ -82,16 +84,18 @@ enum-told-4 c = search needs
 
 returns-3 : tie.Need-returns-3 Inv-loop μ-loop
 returns-3 c =
-    not-torn _ (bytes-in (c .before .before)) _ (c .before .before .before .loop .inv .entries) (c .before .before .next .ensures) (c .enum-told4 .given .1)
+    let at-next = c .before .before in
+    not-torn _ (bytes-in at-next) _ (c .before .before .before .loop .inv .entries) (at-next .next .ensures) (c .enum-told4 .given .1)
 
 enum-told-5 : tie.Need-enum-told-5 Inv-loop μ-loop
 enum-told-5 c = search needs
 
 returns-4 : tie.Need-returns-4 Inv-loop μ-loop
 returns-4 c =
+    let at-next = c .before .before in
     let h = c .before .before .before .loop .inv in
-    let bytes = bytes-in (c .before .before) in
-    found-end _ bytes _ _ h (ended _ bytes _ (h .entries) (c .before .before .next .ensures) (c .enum-told5 .given .1))
+    let bytes = bytes-in at-next in
+    found-end _ bytes _ _ h (ended _ bytes _ (h .entries) (at-next .next .ensures) (c .enum-told5 .given .1))
 
 pub seek-spec : {M : Type 1} → statement M
 seek-spec =

@@ -27,23 +27,25 @@ enum-known-t c = search needs
 
 returns : tie.Need-returns Inv-loop μ-loop
 returns c =
+    let at-t = c .before .before in
     let start = c .before .before .before .before .before .loop in
     let step = c .before .before .before .before .next .ensures in
-    let m = moved (c .before .before .t .given .1) (step .1) in
-    place-found _ m (start .inv .2) (took _ (step .0) (c .before .before .t .given .1)) (c .if1 .taken) ∙ start .inv .3
+    let m = moved (at-t .t .given .1) (step .1) in
+    place-found _ m (start .inv .2) (took _ (step .0) (at-t .t .given .1)) (c .if1 .taken) ∙ start .inv .3
 
 loop-less : tie.Need-loop-less Inv-loop μ-loop
 loop-less c = let m = moved (c .before .before .t .given .1) (c .before .before .before .before .next .ensures .1) in omega arith
 
 loop-again : tie.Need-loop-again Inv-loop μ-loop
 loop-again c =
+    let at-t = c .before .before in
     let start = c .before .before .before .before .before .loop in
     let step = c .before .before .before .before .next .ensures in
-    let m = moved (c .before .before .t .given .1) (step .1) in (
+    let m = moved (at-t .t .given .1) (step .1) in (
       omega arith,
       omega arith,
       omega arith,
-      place-passed _ m (start .inv .2) (took _ (step .0) (c .before .before .t .given .1)) (c .if1 .left) ∙ start .inv .3,
+      place-passed _ m (start .inv .2) (took _ (step .0) (at-t .t .given .1)) (c .if1 .left) ∙ start .inv .3,
     )
 
 enum-told : tie.Need-enum-told Inv-loop μ-loop

@@ -14,13 +14,25 @@ array-share-prefix-p : tie.Need-array-share-prefix-p
 array-share-prefix-p c = search needs
 
 slice-aggregate-seek : tie.Need-slice-aggregate-seek
-slice-aggregate-seek c = lent-length (c .before .before .before .before .before .before .before .args .kind) (c .before .before .before .before .before .before .before .args .first .now) (c .before .before .before .before .before .before .before .args .second .now) (c .before .before .before .before .before .before .before .pre .1) (c .before .before .probe .last .0) (c .before .before .probe .ensures .0) (c .before .before .probe .ensures .1)
+slice-aggregate-seek c =
+    let at-probe = c .before .before in
+    let start = at-probe .before .before .before .before .before in
+    lent-length (start .args .kind) (start .args .first .now) (start .args .second .now) (start .pre .1) (at-probe .probe .last .0) (at-probe .probe .ensures .0) (at-probe .probe .ensures .1)
 
 seek-requires : tie.Need-seek-requires
-seek-requires c κs = (c .before .before .before .before .before .before .before .pre .0, lent-probe (c .before .before .before .before .before .before .before .args .kind) (c .before .before .before .before .before .before .before .args .first .now) (c .before .before .before .before .before .before .before .args .second .now) (c .before .before .before .before .before .before .before .pre .1) (c .before .before .probe .last .0) (c .before .before .probe .ensures .0) (c .before .before .probe .ensures .1))
+seek-requires c κs =
+    let at-probe = c .before .before in
+    let start = at-probe .before .before .before .before .before in (
+      start .pre .0,
+      lent-probe (start .args .kind) (start .args .first .now) (start .args .second .now) (start .pre .1) (at-probe .probe .last .0) (at-probe .probe .ensures .0) (at-probe .probe .ensures .1),
+    )
 
 returns : tie.Need-returns
-returns c = lent-place (c .before .before .before .before .before .before .before .before .args .kind) (c .before .before .before .before .before .before .before .before .args .first .now) (c .before .before .before .before .before .before .before .before .args .second .now) (c .before .before .before .before .before .before .before .before .pre .1) (c .before .before .before .probe .last .0) (c .before .before .before .probe .ensures .0) (c .before .before .before .probe .ensures .1) _ _ _ (c .seek .ensures)
+returns c =
+    let at-probe = c .before .before .before in
+    let start = at-probe .before .before .before .before .before in
+    lent-place (start .args .kind) (start .args .first .now) (start .args .second .now) (start .pre .1) (at-probe .probe .last .0) (at-probe .probe .ensures .0)
+    (at-probe .probe .ensures .1) _ _ _ (c .seek .ensures)
 
 pub find-spec : {M : Type 1} → statement M
 find-spec =

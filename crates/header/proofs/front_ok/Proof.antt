@@ -38,7 +38,11 @@ is-clear-requires c κs = search needs
 
 returns-2 : tie.Need-returns-2
 unfolding mark
-returns-2 c = no-gap (c .before .before .before .before .before .before .before .before .args .b .now) (c .before .before .before .before .same .ensures) (c .before .before .before .if1 .left) (c .before .is-clear .ensures) (c .if2 .taken)
+returns-2 c =
+    let at-if1 = c .before .before .before in
+    let at-same = at-if1 .before in
+    let start = at-same .before .before .before .before in
+    no-gap (start .args .b .now) (at-same .same .ensures) (at-if1 .if1 .left) (c .before .is-clear .ensures) (c .if2 .taken)
 
 sub-is-clear-2 : tie.Need-sub-is-clear-2
 sub-is-clear-2 c = search needs
@@ -55,7 +59,11 @@ is-clear-requires-2 c κs = search needs
 returns-3 : tie.Need-returns-3
 unfolding mark
 returns-3 c =
-    front-end (c .before .before .before .before .before .before .before .before .before .before .args .b .now) (c .before .before .before .before .before .before .same .ensures) (c .before .before .before .before .before .if1 .left) (c .before .before .before .is-clear .ensures) (c .before .before .if2 .left) (c .is-clear2 .ensures)
+    let at-is-clear = c .before .before .before in
+    let at-if1 = at-is-clear .before .before in
+    let at-same = at-if1 .before in
+    let start = at-same .before .before .before .before in
+    front-end (start .args .b .now) (at-same .same .ensures) (at-if1 .if1 .left) (at-is-clear .is-clear .ensures) (c .before .before .if2 .left) (c .is-clear2 .ensures)
 
 pub front-ok-spec : {M : Type 1} → statement M
 front-ok-spec =

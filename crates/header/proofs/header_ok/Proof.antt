@@ -26,9 +26,12 @@ returns-2 c =
 
 returns-3 : tie.Need-returns-3
 returns-3 c =
-    let s = c .before .before .before .before .before .before in
-    let areBytes = known-bytes (s .args .b .now) (λ i. omega (arith, c .before .before .before .before .before .shared-slice-known .given i)) in
-    bad-high (s .args .b .now) areBytes (s .pre) (c .before .before .before .before .front-ok .ensures) (c .before .before .before .if1 .left) (c .before .before .used-in .ensures .0) (c .before .if2 .left) (c .if3 .taken)
+    let at-if1 = c .before .before .before in
+    let at-front-ok = at-if1 .before in
+    let known = at-front-ok .before in
+    let s = known .before in
+    let areBytes = known-bytes (s .args .b .now) (λ i. omega (arith, known .shared-slice-known .given i)) in
+    bad-high (s .args .b .now) areBytes (s .pre) (at-front-ok .front-ok .ensures) (at-if1 .if1 .left) (c .before .before .used-in .ensures .0) (c .before .if2 .left) (c .if3 .taken)
 
 sub-is-clear : tie.Need-sub-is-clear
 sub-is-clear c = search needs
@@ -44,9 +47,15 @@ is-clear-requires c κs = search needs
 
 returns-4 : tie.Need-returns-4
 returns-4 c =
-    let s = c .before .before .before .before .before .before .before .before in
-    let areBytes = known-bytes (s .args .b .now) (λ i. omega (arith, c .before .before .before .before .before .before .before .shared-slice-known .given i)) in
-    rest-zero (s .args .b .now) areBytes (s .pre) (c .before .before .before .before .before .before .front-ok .ensures) (c .before .before .before .before .before .if1 .left) (c .before .before .before .before .used-in .ensures .0) (c .before .before .before .if2 .left) (c .before .before .if3 .left) (c .is-clear .ensures)
+    let at-if2 = c .before .before .before in
+    let at-used-in = at-if2 .before in
+    let at-if1 = at-used-in .before in
+    let at-front-ok = at-if1 .before in
+    let known = at-front-ok .before in
+    let s = known .before in
+    let areBytes = known-bytes (s .args .b .now) (λ i. omega (arith, known .shared-slice-known .given i)) in
+    rest-zero (s .args .b .now) areBytes (s .pre) (at-front-ok .front-ok .ensures) (at-if1 .if1 .left) (at-used-in .used-in .ensures .0) (at-if2 .if2 .left)
+    (c .before .before .if3 .left) (c .is-clear .ensures)
 
 pub header-ok-spec : {M : Type 1} → statement M
 header-ok-spec =

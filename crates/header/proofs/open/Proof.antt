@@ -15,7 +15,11 @@ clear-requires c κs = search needs
 
 put-header-requires : tie.Need-put-header-requires
 put-header-requires c κs =
-    head-fits (c .before .before .before .before .before .before .before .before .args .b .now) (c .before .before .before .before .before .before .is-capacity .ensures) (c .before .before .before .before .before .if1 .left) (c .before .before .before .clear .ensures)
+    let at-clear = c .before .before .before in
+    let at-if1 = at-clear .before .before in
+    let at-is-capacity = at-if1 .before in
+    let start = at-is-capacity .before .before in
+    head-fits (start .args .b .now) (at-is-capacity .is-capacity .ensures) (at-if1 .if1 .left) (at-clear .clear .ensures)
 
 same-length : tie.Need-same-length
 same-length c = search needs

@@ -32,13 +32,20 @@ same-length c = search needs
 returns : tie.Need-returns
 unfolding mark
 returns c =
-    let l = c .before .before .before .before .before .before .before .before .before .before .before .before .before .before .before .before .before .before .before .before .before .before .copy in
-    let used = c .before .before .before .before .before .before .before .before .before .before .before .before .before .before .before .before .before .before .put in
-    let gap = c .before .before .before .before .before .before .before .before .before .before .before .before .before .before .put2 in
-    let epoch = c .before .before .before .before .before .before .before .before .before .before .put3 in
-    let kraft = c .before .before .before .before .before .before .put4 in
+    let at-put4 = c .before .before .before .before .before .before in
+    let at-put3 = at-put4 .before .before .before .before in
+    let at-put2 = at-put3 .before .before .before .before in
+    let at-put = at-put2 .before .before .before .before in
+    let at-copy = at-put .before .before .before .before in
+    let start = at-copy .before .before .before .before in
+    let l = at-copy .copy in
+    let used = at-put .put in
+    let gap = at-put2 .put2 in
+    let epoch = at-put3 .put3 in
+    let kraft = at-put4 .put4 in
     let end = c .before .before .put5 in
-    header-written (c .before .before .before .before .before .before .before .before .before .before .before .before .before .before .before .before .before .before .before .before .before .before .before .before .before .before .args .b .now) (l .last .0) (used .last .0) (gap .last .0) (epoch .last .0) (kraft .last .0) (end .last .0) _ _ _ (l .ensures) (used .ensures) (gap .ensures) (epoch .ensures) (kraft .ensures) (end .ensures)
+    header-written (start .args .b .now) (l .last .0) (used .last .0) (gap .last .0) (epoch .last .0) (kraft .last .0) (end .last .0) _ _ _ (l .ensures) (used .ensures)
+    (gap .ensures) (epoch .ensures) (kraft .ensures) (end .ensures)
 
 pub put-header-spec : {M : Type 1} → statement M
 put-header-spec =

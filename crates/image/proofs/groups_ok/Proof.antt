@@ -9,13 +9,18 @@ all-groups-requires : tie.Need-all-groups-requires
 all-groups-requires c κs = search needs
 
 returns : tie.Need-returns
-returns c = no-groups (recordsIn (c .before .before .before .before .args .s .now)) (recordsIn (c .before .before .before .before .args .t .now)) (c .before .all-groups .ensures) (c .if1 .taken)
+returns c =
+    let start = c .before .before .before .before in
+    no-groups (recordsIn (start .args .s .now)) (recordsIn (start .args .t .now)) (c .before .all-groups .ensures) (c .if1 .taken)
 
 ascends-requires : tie.Need-ascends-requires
 ascends-requires c κs = search needs
 
 returns-2 : tie.Need-returns-2
-returns-2 c = groups-descend (recordsIn (c .before .before .before .before .before .before .args .s .now)) (recordsIn (c .before .before .before .before .before .before .args .t .now)) (c .before .before .before .all-groups .ensures) (c .before .before .if1 .left) (c .before .ascends .ensures) (c .if2 .taken)
+returns-2 c =
+    let at-all-groups = c .before .before .before in
+    let start = at-all-groups .before .before .before in
+    groups-descend (recordsIn (start .args .s .now)) (recordsIn (start .args .t .now)) (at-all-groups .all-groups .ensures) (c .before .before .if1 .left) (c .before .ascends .ensures) (c .if2 .taken)
 
 groups-apart-requires : tie.Need-groups-apart-requires
 groups-apart-requires c κs =
@@ -24,7 +29,11 @@ groups-apart-requires c κs =
 
 returns-3 : tie.Need-returns-3
 returns-3 c =
-    members-decide (recordsIn (c .before .before .before .before .before .before .before .args .s .now)) (recordsIn (c .before .before .before .before .before .before .before .args .t .now)) (c .before .before .before .before .all-groups .ensures) (c .before .before .before .if1 .left) (c .before .before .ascends .ensures) (c .before .if2 .left) (c .groups-apart .ensures)
+    let at-if1 = c .before .before .before in
+    let at-all-groups = at-if1 .before in
+    let start = at-all-groups .before .before .before in
+    members-decide (recordsIn (start .args .s .now)) (recordsIn (start .args .t .now)) (at-all-groups .all-groups .ensures) (at-if1 .if1 .left)
+    (c .before .before .ascends .ensures) (c .before .if2 .left) (c .groups-apart .ensures)
 
 pub groups-ok-spec : {M : Type 1} → statement M
 groups-ok-spec =

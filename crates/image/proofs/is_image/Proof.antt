@@ -23,7 +23,10 @@ header-ok-requires : tie.Need-header-ok-requires
 header-ok-requires c κs = head-there (c .before .before .before .args .b .now) (holds (c .before .is-capacity .ensures) (c .if1 .left))
 
 returns-2 : tie.Need-returns-2
-returns-2 c = no-header (c .before .before .before .before .before .args .b .now) (holds (c .before .before .before .is-capacity .ensures) (c .before .before .if1 .left)) (c .before .header-ok .ensures) (c .if2 .taken)
+returns-2 c =
+    let at-is-capacity = c .before .before .before in
+    let start = at-is-capacity .before .before in
+    no-header (start .args .b .now) (holds (at-is-capacity .is-capacity .ensures) (c .before .before .if1 .left)) (c .before .header-ok .ensures) (c .if2 .taken)
 
 used-in-requires : tie.Need-used-in-requires
 used-in-requires c κs = head-there (c .before .before .before .before .before .args .b .now) (holds (c .before .before .before .is-capacity .ensures) (c .before .before .if1 .left))
@@ -35,43 +38,95 @@ slice-aggregate-all-read : tie.Need-slice-aggregate-all-read
 slice-aggregate-all-read c = search needs
 
 sub-all-read : tie.Need-sub-all-read
-sub-all-read c = used-low (c .before .before .before .before .before .before .before .before .args .b .now) (holds (c .before .before .before .before .header-ok .ensures) (c .before .before .before .if2 .left)) (c .before .before .used-in .ensures .0)
+sub-all-read c =
+    let at-if2 = c .before .before .before in
+    let at-header-ok = at-if2 .before in
+    let start = at-header-ok .before .before .before .before in
+    used-low (start .args .b .now) (holds (at-header-ok .header-ok .ensures) (at-if2 .if2 .left)) (c .before .before .used-in .ensures .0)
 
 part-all-read-start : tie.Need-part-all-read-start
-part-all-read-start c = used-low (c .before .before .before .before .before .before .before .before .args .b .now) (holds (c .before .before .before .before .header-ok .ensures) (c .before .before .before .if2 .left)) (c .before .before .used-in .ensures .0)
+part-all-read-start c =
+    let at-if2 = c .before .before .before in
+    let at-header-ok = at-if2 .before in
+    let start = at-header-ok .before .before .before .before in
+    used-low (start .args .b .now) (holds (at-header-ok .header-ok .ensures) (at-if2 .if2 .left)) (c .before .before .used-in .ensures .0)
 
 part-all-read-end : tie.Need-part-all-read-end
-part-all-read-end c = used-high (c .before .before .before .before .before .before .before .before .args .b .now) (holds (c .before .before .before .before .header-ok .ensures) (c .before .before .before .if2 .left)) (c .before .before .used-in .ensures .0)
+part-all-read-end c =
+    let at-if2 = c .before .before .before in
+    let at-header-ok = at-if2 .before in
+    let start = at-header-ok .before .before .before .before in
+    used-high (start .args .b .now) (holds (at-header-ok .header-ok .ensures) (at-if2 .if2 .left)) (c .before .before .used-in .ensures .0)
 
 all-read-requires : tie.Need-all-read-requires
 all-read-requires c κs = search needs
 
 returns-3 : tie.Need-returns-3
 returns-3 c =
-    let whole = (c .before .all-read .ensures) ∙ ap (λ s. isWhole (itemsOf stored s)) (lent-part (c .before .before .before .before .before .before .before .before .before .before .before .args .b .now) (holds (c .before .before .before .before .before .before .before .header-ok .ensures) (c .before .before .before .before .before .before .if2 .left)) (c .before .before .before .before .before .used-in .ensures .0)) in
-    no-entries (c .before .before .before .before .before .before .before .before .before .before .before .args .b .now) (holds (c .before .before .before .before .before .before .before .before .before .is-capacity .ensures) (c .before .before .before .before .before .before .before .before .if1 .left)) (known-bytes (c .before .before .before .before .before .before .before .before .before .before .before .args .b .now) (λ i. omega (arith, c .before .before .before .before .before .before .before .before .before .before .shared-slice-known .given i))) (holds (c .before .before .before .before .before .before .before .header-ok .ensures) (c .before .before .before .before .before .before .if2 .left)) whole (c .if3 .taken)
+    let at-used-in = c .before .before .before .before .before in
+    let at-if2 = at-used-in .before in
+    let at-header-ok = at-if2 .before in
+    let at-if1 = at-header-ok .before in
+    let at-is-capacity = at-if1 .before in
+    let known = at-is-capacity .before in
+    let start = known .before in
+    let holds-here = holds (at-header-ok .header-ok .ensures) (at-if2 .if2 .left) in
+    let whole = (c .before .all-read .ensures) ∙ ap (λ s. isWhole (itemsOf stored s)) (lent-part (start .args .b .now) holds-here (at-used-in .used-in .ensures .0)) in
+    no-entries (start .args .b .now) (holds (at-is-capacity .is-capacity .ensures) (at-if1 .if1 .left))
+    (known-bytes (start .args .b .now) (λ i. omega (arith, known .shared-slice-known .given i))) holds-here whole (c .if3 .taken)
 
 sub-entries-ok : tie.Need-sub-entries-ok
-sub-entries-ok c = used-low (c .before .before .before .before .before .before .before .before .before .before .before .args .b .now) (holds (c .before .before .before .before .before .before .before .header-ok .ensures) (c .before .before .before .before .before .before .if2 .left)) (c .before .before .before .before .before .used-in .ensures .0)
+sub-entries-ok c =
+    let at-used-in = c .before .before .before .before .before in
+    let at-if2 = at-used-in .before in
+    let at-header-ok = at-if2 .before in
+    let start = at-header-ok .before .before .before .before in
+    used-low (start .args .b .now) (holds (at-header-ok .header-ok .ensures) (at-if2 .if2 .left)) (at-used-in .used-in .ensures .0)
 
 part-entries-ok-start : tie.Need-part-entries-ok-start
-part-entries-ok-start c = used-low (c .before .before .before .before .before .before .before .before .before .before .before .args .b .now) (holds (c .before .before .before .before .before .before .before .header-ok .ensures) (c .before .before .before .before .before .before .if2 .left)) (c .before .before .before .before .before .used-in .ensures .0)
+part-entries-ok-start c =
+    let at-used-in = c .before .before .before .before .before in
+    let at-if2 = at-used-in .before in
+    let at-header-ok = at-if2 .before in
+    let start = at-header-ok .before .before .before .before in
+    used-low (start .args .b .now) (holds (at-header-ok .header-ok .ensures) (at-if2 .if2 .left)) (at-used-in .used-in .ensures .0)
 
 part-entries-ok-end : tie.Need-part-entries-ok-end
-part-entries-ok-end c = used-high (c .before .before .before .before .before .before .before .before .before .before .before .args .b .now) (holds (c .before .before .before .before .before .before .before .header-ok .ensures) (c .before .before .before .before .before .before .if2 .left)) (c .before .before .before .before .before .used-in .ensures .0)
+part-entries-ok-end c =
+    let at-used-in = c .before .before .before .before .before in
+    let at-if2 = at-used-in .before in
+    let at-header-ok = at-if2 .before in
+    let start = at-header-ok .before .before .before .before in
+    used-high (start .args .b .now) (holds (at-header-ok .header-ok .ensures) (at-if2 .if2 .left)) (at-used-in .used-in .ensures .0)
 
 entries-ok-requires : tie.Need-entries-ok-requires
 entries-ok-requires c κs =
-    let most = at-most (c .before .before .before .before .before .before .before .before .before .before .before .before .args .b .now) (holds (c .before .before .before .before .before .before .before .before .before .before .is-capacity .ensures) (c .before .before .before .before .before .before .before .before .before .if1 .left)) in
-    let short = part-short (c .before .before .before .before .before .before .before .before .before .before .before .before .args .b .now) (holds (c .before .before .before .before .before .before .before .before .header-ok .ensures) (c .before .before .before .before .before .before .before .if2 .left)) (c .before .before .before .before .before .before .used-in .ensures .0) in
+    let at-used-in = c .before .before .before .before .before .before in
+    let at-if2 = at-used-in .before in
+    let at-header-ok = at-if2 .before in
+    let at-if1 = at-header-ok .before in
+    let at-is-capacity = at-if1 .before in
+    let start = at-is-capacity .before .before in
+    let most = at-most (start .args .b .now) (holds (at-is-capacity .is-capacity .ensures) (at-if1 .if1 .left)) in
+    let short = part-short (start .args .b .now) (holds (at-header-ok .header-ok .ensures) (at-if2 .if2 .left)) (at-used-in .used-in .ensures .0) in
     (holds (c .before .before .all-read .ensures) (c .before .if3 .left), omega arith, most)
 
 returns-4 : tie.Need-returns-4
 returns-4 c =
-    let b = (c .before .before .before .before .before .before .before .before .before .before .before .before .before .args .b .now) in
-    let part = lent-part (c .before .before .before .before .before .before .before .before .before .before .before .before .before .args .b .now) (holds (c .before .before .before .before .before .before .before .before .before .header-ok .ensures) (c .before .before .before .before .before .before .before .before .if2 .left)) (c .before .before .before .before .before .before .before .used-in .ensures .0) in
-    let whole = holds ((c .before .before .before .all-read .ensures) ∙ ap (λ s. isWhole (itemsOf stored s)) part) (c .before .before .if3 .left) in
-    entries-decide b (holds (c .before .before .before .before .before .before .before .before .before .before .before .is-capacity .ensures) (c .before .before .before .before .before .before .before .before .before .before .if1 .left)) (known-bytes (c .before .before .before .before .before .before .before .before .before .before .before .before .before .args .b .now) (λ i. omega (arith, c .before .before .before .before .before .before .before .before .before .before .before .before .shared-slice-known .given i))) (holds (c .before .before .before .before .before .before .before .before .before .header-ok .ensures) (c .before .before .before .before .before .before .before .before .if2 .left)) whole (c .entries-ok .ensures ∙ ap (λ s. entriesSound s && isLight s (length b)) part)
+    let at-all-read = c .before .before .before in
+    let at-used-in = at-all-read .before .before .before .before in
+    let at-if2 = at-used-in .before in
+    let at-header-ok = at-if2 .before in
+    let at-if1 = at-header-ok .before in
+    let at-is-capacity = at-if1 .before in
+    let known = at-is-capacity .before in
+    let start = known .before in
+    let holds-here = holds (at-header-ok .header-ok .ensures) (at-if2 .if2 .left) in
+    let b = (start .args .b .now) in
+    let part = lent-part (start .args .b .now) holds-here (at-used-in .used-in .ensures .0) in
+    let whole = holds ((at-all-read .all-read .ensures) ∙ ap (λ s. isWhole (itemsOf stored s)) part) (c .before .before .if3 .left) in
+    entries-decide b (holds (at-is-capacity .is-capacity .ensures) (at-if1 .if1 .left))
+    (known-bytes (start .args .b .now) (λ i. omega (arith, known .shared-slice-known .given i))) holds-here whole (c .entries-ok .ensures ∙ ap (λ s. entriesSound s && isLight s (length b)) part)
 
 pub is-image-spec : {M : Type 1} → statement M
 is-image-spec =

@@ -15,21 +15,35 @@ ascends-requires : tie.Need-ascends-requires
 ascends-requires c κs = search needs
 
 returns-2 : tie.Need-returns-2
-returns-2 c = not-ascending (recordsIn (c .before .before .before .before .before .args .s .now)) (c .before .before .before .all-stored .ensures) (c .before .before .if1 .left) (c .before .ascends .ensures) (c .if2 .taken)
+returns-2 c =
+    let at-all-stored = c .before .before .before in
+    let start = at-all-stored .before .before in
+    not-ascending (recordsIn (start .args .s .now)) (at-all-stored .all-stored .ensures) (c .before .before .if1 .left) (c .before .ascends .ensures) (c .if2 .taken)
 
 counts-fit-requires : tie.Need-counts-fit-requires
 counts-fit-requires c κs = (c .before .before .before .before .before .pre, holds (c .before .ascends .ensures) (c .if2 .left))
 
 returns-3 : tie.Need-returns-3
 returns-3 c =
-    not-counted (recordsIn (c .before .before .before .before .before .before .before .args .s .now)) (c .before .before .before .before .before .all-stored .ensures) (c .before .before .before .before .if1 .left) (c .before .before .before .ascends .ensures) (c .before .before .if2 .left) (c .before .counts-fit .ensures) (c .if3 .taken)
+    let at-ascends = c .before .before .before in
+    let at-if1 = at-ascends .before in
+    let at-all-stored = at-if1 .before in
+    let start = at-all-stored .before .before in
+    not-counted (recordsIn (start .args .s .now)) (at-all-stored .all-stored .ensures) (at-if1 .if1 .left) (at-ascends .ascends .ensures) (c .before .before .if2 .left)
+    (c .before .counts-fit .ensures) (c .if3 .taken)
 
 ids-apart-requires : tie.Need-ids-apart-requires
 ids-apart-requires c κs = search needs
 
 returns-4 : tie.Need-returns-4
 returns-4 c =
-    ids-decide (recordsIn (c .before .before .before .before .before .before .before .before .args .s .now)) (c .before .before .before .before .before .before .all-stored .ensures) (c .before .before .before .before .before .if1 .left) (c .before .before .before .before .ascends .ensures) (c .before .before .before .if2 .left) (c .before .before .counts-fit .ensures) (c .before .if3 .left) (c .ids-apart .ensures)
+    let at-if2 = c .before .before .before in
+    let at-ascends = at-if2 .before in
+    let at-if1 = at-ascends .before in
+    let at-all-stored = at-if1 .before in
+    let start = at-all-stored .before .before in
+    ids-decide (recordsIn (start .args .s .now)) (at-all-stored .all-stored .ensures) (at-if1 .if1 .left) (at-ascends .ascends .ensures) (at-if2 .if2 .left)
+    (c .before .before .counts-fit .ensures) (c .before .if3 .left) (c .ids-apart .ensures)
 
 pub reals-ok-spec : {M : Type 1} → statement M
 reals-ok-spec =

@@ -17,7 +17,9 @@ abbrev μ-loop : tie.MeasureT-loop
 μ-loop s name count₀ c₀ count c = length s - c .at
 
 loop-holds : tie.Need-loop-holds Inv-loop μ-loop
-loop-holds c = passed-start _ _ (c .before .before .pre .0) (c .before .before .pre .1)
+loop-holds c =
+    let start = c .before .before in
+    passed-start _ _ (start .pre .0) (start .pre .1)
 
 next-requires : tie.Need-next-requires Inv-loop μ-loop
 next-requires c κs = search needs
@@ -32,7 +34,9 @@ bytes-in c = known-bytes (c .before .before .before .before .args .s .now) (λ i
 -- the entry that a step found
 entry : (c : tie.After-start Inv-loop μ-loop)
     → Stands (c .before .before .before .before .before .before .args .s .now) (c .before .before .before .loop .c .at) (c .start .given .0 .0) (c .start .given .0 .1 .0) (c .start .given .0 .1 .1 .0)
-entry c = stands _ (bytes-in (c .before .before)) _ (c .before .before .before .loop .inv .entries) (c .before .before .next .ensures) (c .start .given .1)
+entry c =
+    let at-next = c .before .before in
+    stands _ (bytes-in at-next) _ (c .before .before .before .loop .inv .entries) (at-next .next .ensures) (c .start .given .1)
 
 sub-beside : tie.Need-sub-beside Inv-loop μ-loop
 sub-beside c = omega (arith, bounds (entry (c .before)))
@@ -53,39 +57,56 @@ loop-less : tie.Need-loop-less Inv-loop μ-loop
 loop-less c = turn-falls _ _ _ _ _ (entry (c .before .before .before .before .before))
 
 loop-again : tie.Need-loop-again Inv-loop μ-loop
-loop-again c = passed-less (c .before .before .before .before .before .before .before .before .loop .inv) (entry (c .before .before .before .before .before)) (c .before .before .beside .result) (c .before .before .beside .ensures) (c .enum-told .given .1)
+loop-again c =
+    let at-beside = c .before .before in
+    let here = at-beside .before .before .before in
+    let at-loop = here .before .before .before in
+    passed-less (at-loop .loop .inv) (entry here) (at-beside .beside .result) (at-beside .beside .ensures) (c .enum-told .given .1)
 
 enum-told-2 : tie.Need-enum-told-2 Inv-loop μ-loop
 enum-told-2 c = search needs
 
 add-count : tie.Need-add-count Inv-loop μ-loop
-add-count c = omega (arith, c .before .before .before .before .before .before .before .before .loop .inv .low, c .before .before .before .before .before .before .before .before .loop .inv .most)
+add-count c =
+    let at-loop = c .before .before .before .before .before .before .before .before in
+    omega (arith, at-loop .loop .inv .low, at-loop .loop .inv .most)
 
 loop-less-2 : tie.Need-loop-less-2 Inv-loop μ-loop
 loop-less-2 c = turn-falls _ _ _ _ _ (entry (c .before .before .before .before .before))
 
 loop-again-2 : tie.Need-loop-again-2 Inv-loop μ-loop
-loop-again-2 c = passed-equal (c .before .before .before .before .before .before .before .before .loop .inv) (entry (c .before .before .before .before .before)) (c .before .before .beside .result) (c .before .before .beside .ensures) (c .enum-told2 .given .1)
+loop-again-2 c =
+    let at-beside = c .before .before in
+    let here = at-beside .before .before .before in
+    let at-loop = here .before .before .before in
+    passed-equal (at-loop .loop .inv) (entry here) (at-beside .beside .result) (at-beside .beside .ensures) (c .enum-told2 .given .1)
 
 enum-told-3 : tie.Need-enum-told-3 Inv-loop μ-loop
 enum-told-3 c = search needs
 
 returns : tie.Need-returns Inv-loop μ-loop
-returns c = passed-greater (c .before .before .before .before .before .before .before .before .loop .inv) (entry (c .before .before .before .before .before)) (c .before .before .beside .result) (c .before .before .beside .ensures) (c .enum-told3 .given .1)
+returns c =
+    let at-beside = c .before .before in
+    let here = at-beside .before .before .before in
+    let at-loop = here .before .before .before in
+    passed-greater (at-loop .loop .inv) (entry here) (at-beside .beside .result) (at-beside .beside .ensures) (c .enum-told3 .given .1)
 
 enum-told-4 : tie.Need-enum-told-4 Inv-loop μ-loop
 enum-told-4 c = search needs
 
 returns-2 : tie.Need-returns-2 Inv-loop μ-loop
-returns-2 c = not-torn _ (bytes-in (c .before .before)) _ (c .before .before .before .loop .inv .entries) (c .before .before .next .ensures) (c .enum-told4 .given .1)
+returns-2 c =
+    let at-next = c .before .before in
+    not-torn _ (bytes-in at-next) _ (c .before .before .before .loop .inv .entries) (at-next .next .ensures) (c .enum-told4 .given .1)
 
 enum-told-5 : tie.Need-enum-told-5 Inv-loop μ-loop
 enum-told-5 c = search needs
 
 returns-3 : tie.Need-returns-3 Inv-loop μ-loop
 returns-3 c =
+    let at-next = c .before .before in
     let h = c .before .before .before .loop .inv in
-    passed-end h (ended _ (bytes-in (c .before .before)) _ (h .entries) (c .before .before .next .ensures) (c .enum-told5 .given .1))
+    passed-end h (ended _ (bytes-in at-next) _ (h .entries) (at-next .next .ensures) (c .enum-told5 .given .1))
 
 pub count-of-spec : {M : Type 1} → statement M
 count-of-spec =

@@ -34,7 +34,9 @@ bytes-in c = known-bytes (c .before .before .before .args .s .now) (λ i. omega 
 -- the entry that a step found
 entry : (c : tie.After-start Inv-loop μ-loop)
     → Stands (c .before .before .before .before .before .args .s .now) (c .before .before .before .loop .c .at) (c .start .given .0 .0) (c .start .given .0 .1 .0) (c .start .given .0 .1 .1 .0)
-entry c = stands _ (bytes-in (c .before .before)) _ (c .before .before .before .loop .inv .entries) (c .before .before .next .ensures) (c .start .given .1)
+entry c =
+    let at-next = c .before .before in
+    stands _ (bytes-in at-next) _ (c .before .before .before .loop .inv .entries) (at-next .next .ensures) (c .start .given .1)
 
 shared-slice-read-if1 : tie.Need-shared-slice-read-if1 Inv-loop μ-loop
 shared-slice-read-if1 c = let t = entry (c .before .before) in omega (arith, t .first, t .last, t .entry .fits)
@@ -81,30 +83,49 @@ number-at-requires : tie.Need-number-at-requires Inv-loop μ-loop
 number-at-requires c κs = let t = entry (c .before .before .before .before .before .before .before) in (headed-here t, omega arith, width-here t (c .before .before .before .before .if1 .left))
 
 returns : tie.Need-returns Inv-loop μ-loop
-returns c = merged-exceeds (c .before .before .before .before .before .before .before .before .before .before .before .before .before .loop .inv) (entry (c .before .before .before .before .before .before .before .before .before .before)) (c .before .before .before .before .before .before .before .if1 .left) (c .before .before .before .before .count-for .ensures) _ (c .before .before .number-at .ensures) (c .if2 .taken)
+returns c =
+    let at-count-for = c .before .before .before .before in
+    let at-if1 = at-count-for .before .before .before in
+    let here = at-if1 .before .before .before in
+    let at-loop = here .before .before .before in
+    merged-exceeds (at-loop .loop .inv) (entry here) (at-if1 .if1 .left) (at-count-for .count-for .ensures) _ (c .before .before .number-at .ensures) (c .if2 .taken)
 
 add-from : tie.Need-add-from Inv-loop μ-loop
-add-from c = omega (arith, to-fits (c .before .before .before .before .before .before .before .before .before .before .before .before .before .before .loop .inv) (entry (c .before .before .before .before .before .before .before .before .before .before .before)) (c .before .before .before .before .before .before .before .before .if1 .left) (c .before .before .before .before .before .count-for .ensures))
+add-from c =
+    let at-count-for = c .before .before .before .before .before in
+    let at-if1 = at-count-for .before .before .before in
+    let here = at-if1 .before .before .before in
+    let at-loop = here .before .before .before in
+    omega (arith, to-fits (at-loop .loop .inv) (entry here) (at-if1 .if1 .left) (at-count-for .count-for .ensures))
 
 loop-less-2 : tie.Need-loop-less-2 Inv-loop μ-loop
 loop-less-2 c = turn-falls _ _ _ _ _ (entry (c .before .before .before .before .before .before .before .before .before .before .before))
 
 loop-again-2 : tie.Need-loop-again-2 Inv-loop μ-loop
-loop-again-2 c = merged-topic (c .before .before .before .before .before .before .before .before .before .before .before .before .before .before .loop .inv) (entry (c .before .before .before .before .before .before .before .before .before .before .before)) (c .before .before .before .before .before .before .before .before .if1 .left) (c .before .before .before .before .before .count-for .ensures) _ (c .before .before .before .number-at .ensures) (c .before .if2 .left)
+loop-again-2 c =
+    let at-number-at = c .before .before .before in
+    let at-count-for = at-number-at .before .before in
+    let at-if1 = at-count-for .before .before .before in
+    let here = at-if1 .before .before .before in
+    let at-loop = here .before .before .before in
+    merged-topic (at-loop .loop .inv) (entry here) (at-if1 .if1 .left) (at-count-for .count-for .ensures) _ (at-number-at .number-at .ensures) (c .before .if2 .left)
 
 enum-told : tie.Need-enum-told Inv-loop μ-loop
 enum-told c = search needs
 
 returns-2 : tie.Need-returns-2 Inv-loop μ-loop
-returns-2 c = not-torn _ (bytes-in (c .before .before)) _ (c .before .before .before .loop .inv .entries) (c .before .before .next .ensures) (c .enum-told .given .1)
+returns-2 c =
+    let at-next = c .before .before in
+    not-torn _ (bytes-in at-next) _ (c .before .before .before .loop .inv .entries) (at-next .next .ensures) (c .enum-told .given .1)
 
 enum-told-2 : tie.Need-enum-told-2 Inv-loop μ-loop
 enum-told-2 c = search needs
 
 returns-3 : tie.Need-returns-3 Inv-loop μ-loop
 returns-3 c =
+    let at-next = c .before .before in
     let h = c .before .before .before .loop .inv in
-    merged-end h (ended _ (bytes-in (c .before .before)) _ (h .entries) (c .before .before .next .ensures) (c .enum-told2 .given .1))
+    merged-end h (ended _ (bytes-in at-next) _ (h .entries) (at-next .next .ensures) (c .enum-told2 .given .1))
 
 pub counts-fit-spec : {M : Type 1} → statement M
 counts-fit-spec =

@@ -21,7 +21,9 @@ abbrev μ-loop : tie.MeasureT-loop
 μ-loop s seen₀ c₀ seen c = length s - c .at
 
 loop-holds : tie.Need-loop-holds Inv-loop μ-loop
-loop-holds c = walk-start _ _ (c .before .before .pre .0) (c .before .before .pre .1)
+loop-holds c =
+    let start = c .before .before in
+    walk-start _ _ (start .pre .0) (start .pre .1)
 
 next-requires : tie.Need-next-requires Inv-loop μ-loop
 next-requires c κs = search needs
@@ -36,7 +38,9 @@ bytes-in c = known-bytes (c .before .before .before .before .args .s .now) (λ i
 -- the entry that a step found
 entry : (c : tie.After-start Inv-loop μ-loop)
     → Stands (c .before .before .before .before .before .before .args .s .now) (c .before .before .before .loop .c .at) (c .start .given .0 .0) (c .start .given .0 .1 .0) (c .start .given .0 .1 .1 .0)
-entry c = stands _ (bytes-in (c .before .before)) _ (c .before .before .before .loop .inv .entries) (c .before .before .next .ensures) (c .start .given .1)
+entry c =
+    let at-next = c .before .before in
+    stands _ (bytes-in at-next) _ (c .before .before .before .loop .inv .entries) (at-next .next .ensures) (c .start .given .1)
 
 -- the table keeps its length
 same-size : (c : tie.At-loop Inv-loop μ-loop) → length (c .loop .seen) ≡ length (c .before .before .before .args .seen .now)
@@ -130,7 +134,9 @@ same-length-2 : tie.Need-same-length-2 Inv-loop μ-loop
 same-length-2 c = same-size (c .before .before .before)
 
 returns-2 : tie.Need-returns-2 Inv-loop μ-loop
-returns-2 c = not-torn _ (bytes-in (c .before .before)) _ (c .before .before .before .loop .inv .entries) (c .before .before .next .ensures) (c .enum-told .given .1)
+returns-2 c =
+    let at-next = c .before .before in
+    not-torn _ (bytes-in at-next) _ (c .before .before .before .loop .inv .entries) (at-next .next .ensures) (c .enum-told .given .1)
 
 enum-told-2 : tie.Need-enum-told-2 Inv-loop μ-loop
 enum-told-2 c = search needs
@@ -140,8 +146,9 @@ same-length-3 c = same-size (c .before .before .before)
 
 returns-3 : tie.Need-returns-3 Inv-loop μ-loop
 returns-3 c =
+    let at-next = c .before .before in
     let h = c .before .before .before .loop .inv in
-    walk-end h (ended _ (bytes-in (c .before .before)) _ (h .entries) (c .before .before .next .ensures) (c .enum-told2 .given .1))
+    walk-end h (ended _ (bytes-in at-next) _ (h .entries) (at-next .next .ensures) (c .enum-told2 .given .1))
 
 pub ids-apart-with-spec : {M : Type 1} → statement M
 ids-apart-with-spec =

@@ -33,7 +33,9 @@ bytes-in c = known-bytes (c .before .before .before .before .args .s .now) (λ i
 -- the entry that a step found
 entry : (c : tie.After-start Inv-loop μ-loop)
     → Stands (c .before .before .before .before .before .before .args .s .now) (c .before .before .before .loop .c .at) (c .start .given .0 .0) (c .start .given .0 .1 .0) (c .start .given .0 .1 .1 .0)
-entry c = stands _ (bytes-in (c .before .before)) _ (c .before .before .before .loop .inv .entries) (c .before .before .next .ensures) (c .start .given .1)
+entry c =
+    let at-next = c .before .before in
+    stands _ (bytes-in at-next) _ (c .before .before .before .loop .inv .entries) (at-next .next .ensures) (c .start .given .1)
 
 sub-names : tie.Need-sub-names Inv-loop μ-loop
 sub-names c = omega (arith, bounds (entry (c .before)))
@@ -60,15 +62,18 @@ enum-told : tie.Need-enum-told Inv-loop μ-loop
 enum-told c = search needs
 
 returns-2 : tie.Need-returns-2 Inv-loop μ-loop
-returns-2 c = not-torn _ (bytes-in (c .before .before)) _ (c .before .before .before .loop .inv .entries) (c .before .before .next .ensures) (c .enum-told .given .1)
+returns-2 c =
+    let at-next = c .before .before in
+    not-torn _ (bytes-in at-next) _ (c .before .before .before .loop .inv .entries) (at-next .next .ensures) (c .enum-told .given .1)
 
 enum-told-2 : tie.Need-enum-told-2 Inv-loop μ-loop
 enum-told-2 c = search needs
 
 returns-3 : tie.Need-returns-3 Inv-loop μ-loop
 returns-3 c =
+    let at-next = c .before .before in
     let h = c .before .before .before .loop .inv in
-    scan-end h (ended _ (bytes-in (c .before .before)) _ (h .entries) (c .before .before .next .ensures) (c .enum-told2 .given .1))
+    scan-end h (ended _ (bytes-in at-next) _ (h .entries) (at-next .next .ensures) (c .enum-told2 .given .1))
 
 pub none-names-spec : {M : Type 1} → statement M
 none-names-spec =

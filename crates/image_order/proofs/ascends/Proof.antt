@@ -32,7 +32,9 @@ bytes-in c = known-bytes (c .before .before .before .args .s .now) (λ i. omega 
 -- the entry that a step found
 entry : (c : tie.After-start Inv-loop μ-loop)
     → Stands (c .before .before .before .before .before .args .s .now) (c .before .before .before .loop .c .at) (c .start .given .0 .0) (c .start .given .0 .1 .0) (c .start .given .0 .1 .1 .0)
-entry c = stands _ (bytes-in (c .before .before)) _ (c .before .before .before .loop .inv .entries) (c .before .before .next .ensures) (c .start .given .1)
+entry c =
+    let at-next = c .before .before in
+    stands _ (bytes-in at-next) _ (c .before .before .before .loop .inv .entries) (at-next .next .ensures) (c .start .given .1)
 
 loop-less : tie.Need-loop-less Inv-loop μ-loop
 loop-less c = turn-falls _ _ _ _ _ (entry (c .before .before))
@@ -68,33 +70,48 @@ loop-less-2 : tie.Need-loop-less-2 Inv-loop μ-loop
 loop-less-2 c = turn-falls _ _ _ _ _ (entry (c .before .before .before .before .before .before .before))
 
 loop-again-2 : tie.Need-loop-again-2 Inv-loop μ-loop
-loop-again-2 c = climb-less (c .before .before .before .before .before .before .before .before .before .before .loop .inv) (entry (c .before .before .before .before .before .before .before)) (c .before .before .before .before .before .if1 .left) _ (c .before .before .compare-keys .ensures) (c .enum-told .given .1)
+loop-again-2 c =
+    let at-if1 = c .before .before .before .before .before in
+    let here = at-if1 .before .before in
+    let at-loop = here .before .before .before in
+    climb-less (at-loop .loop .inv) (entry here) (at-if1 .if1 .left) _ (c .before .before .compare-keys .ensures) (c .enum-told .given .1)
 
 enum-told-2 : tie.Need-enum-told-2 Inv-loop μ-loop
 enum-told-2 c = search needs
 
 returns : tie.Need-returns Inv-loop μ-loop
-returns c = climb-equal (c .before .before .before .before .before .before .before .before .before .before .loop .inv) (entry (c .before .before .before .before .before .before .before)) (c .before .before .before .before .before .if1 .left) _ (c .before .before .compare-keys .ensures) (c .enum-told2 .given .1)
+returns c =
+    let at-if1 = c .before .before .before .before .before in
+    let here = at-if1 .before .before in
+    let at-loop = here .before .before .before in
+    climb-equal (at-loop .loop .inv) (entry here) (at-if1 .if1 .left) _ (c .before .before .compare-keys .ensures) (c .enum-told2 .given .1)
 
 enum-told-3 : tie.Need-enum-told-3 Inv-loop μ-loop
 enum-told-3 c = search needs
 
 returns-2 : tie.Need-returns-2 Inv-loop μ-loop
-returns-2 c = climb-greater (c .before .before .before .before .before .before .before .before .before .before .loop .inv) (entry (c .before .before .before .before .before .before .before)) (c .before .before .before .before .before .if1 .left) _ (c .before .before .compare-keys .ensures) (c .enum-told3 .given .1)
+returns-2 c =
+    let at-if1 = c .before .before .before .before .before in
+    let here = at-if1 .before .before in
+    let at-loop = here .before .before .before in
+    climb-greater (at-loop .loop .inv) (entry here) (at-if1 .if1 .left) _ (c .before .before .compare-keys .ensures) (c .enum-told3 .given .1)
 
 enum-told-4 : tie.Need-enum-told-4 Inv-loop μ-loop
 enum-told-4 c = search needs
 
 returns-3 : tie.Need-returns-3 Inv-loop μ-loop
-returns-3 c = not-torn _ (bytes-in (c .before .before)) _ (c .before .before .before .loop .inv .entries) (c .before .before .next .ensures) (c .enum-told4 .given .1)
+returns-3 c =
+    let at-next = c .before .before in
+    not-torn _ (bytes-in at-next) _ (c .before .before .before .loop .inv .entries) (at-next .next .ensures) (c .enum-told4 .given .1)
 
 enum-told-5 : tie.Need-enum-told-5 Inv-loop μ-loop
 enum-told-5 c = search needs
 
 returns-4 : tie.Need-returns-4 Inv-loop μ-loop
 returns-4 c =
+    let at-next = c .before .before in
     let h = c .before .before .before .loop .inv in
-    climb-end h (ended _ (bytes-in (c .before .before)) _ (h .entries) (c .before .before .next .ensures) (c .enum-told5 .given .1))
+    climb-end h (ended _ (bytes-in at-next) _ (h .entries) (at-next .next .ensures) (c .enum-told5 .given .1))
 
 pub ascends-spec : {M : Type 1} → statement M
 ascends-spec =

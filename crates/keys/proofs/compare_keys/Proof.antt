@@ -36,22 +36,34 @@ form-of-requires c κs = search needs
 
 compare-by-requires : tie.Need-compare-by-requires
 compare-by-requires c κs =
-    let p = c .before .before .before .before .before .before .before .before .before .before .pre in
-    let a = c .before .before .before .before .before .before .before .before .before .before .args in
-    let e : c .before .before .before .before .before .before .rank-of .result ≡ c .before .before .before .before .rank-of2 .result = omega arith in
+    let at-rank-of2 = c .before .before .before .before in
+    let at-rank-of = at-rank-of2 .before .before in
+    let at-shared-slice-known2 = at-rank-of .before .before in
+    let known = at-shared-slice-known2 .before in
+    let start = known .before in
+    let p = start .pre in
+    let a = start .args in
+    let e : at-rank-of .rank-of .result ≡ at-rank-of2 .rank-of2 .result = omega arith in
     let w =
-    both-fit (a .a .now) (a .b .now) (p .0) (p .1) (known-bytes (a .a .now) (λ i. omega (arith, c .before .before .before .before .before .before .before .before .before .shared-slice-known .given i))) (known-bytes (a .b .now) (λ i. omega (arith, c .before .before .before .before .before .before .before .before .shared-slice-known2 .given i)))
-    _ _ _ (c .before .before .before .before .before .before .rank-of .ensures) (c .before .before .before .before .rank-of2 .ensures) e (c .form-of .ensures) in
+    both-fit (a .a .now) (a .b .now) (p .0) (p .1) (known-bytes (a .a .now) (λ i. omega (arith, known .shared-slice-known .given i)))
+    (known-bytes (a .b .now) (λ i. omega (arith, at-shared-slice-known2 .shared-slice-known2 .given i)))
+    _ _ _ (at-rank-of .rank-of .ensures) (at-rank-of2 .rank-of2 .ensures) e (c .form-of .ensures) in
     (p .0 .headed, p .1 .headed, w .0, w .1)
 
 returns-3 : tie.Need-returns-3
 returns-3 c =
-    let p = c .before .before .before .before .before .before .before .before .before .before .before .pre in
-    let a = c .before .before .before .before .before .before .before .before .before .before .before .args in
-    let e : c .before .before .before .before .before .before .before .rank-of .result ≡ c .before .before .before .before .before .rank-of2 .result = omega arith in
+    let at-rank-of2 = c .before .before .before .before .before in
+    let at-rank-of = at-rank-of2 .before .before in
+    let at-shared-slice-known2 = at-rank-of .before .before in
+    let known = at-shared-slice-known2 .before in
+    let start = known .before in
+    let p = start .pre in
+    let a = start .args in
+    let e : at-rank-of .rank-of .result ≡ at-rank-of2 .rank-of2 .result = omega arith in
     c .compare-by .ensures
-    ∙ same-order (a .a .now) (a .b .now) (p .0) (p .1) (known-bytes (a .a .now) (λ i. omega (arith, c .before .before .before .before .before .before .before .before .before .before .shared-slice-known .given i))) (known-bytes (a .b .now) (λ i. omega (arith, c .before .before .before .before .before .before .before .before .before .shared-slice-known2 .given i)))
-    _ _ _ (c .before .before .before .before .before .before .before .rank-of .ensures) (c .before .before .before .before .before .rank-of2 .ensures) e (c .before .form-of .ensures)
+    ∙ same-order (a .a .now) (a .b .now) (p .0) (p .1) (known-bytes (a .a .now) (λ i. omega (arith, known .shared-slice-known .given i)))
+    (known-bytes (a .b .now) (λ i. omega (arith, at-shared-slice-known2 .shared-slice-known2 .given i)))
+    _ _ _ (at-rank-of .rank-of .ensures) (at-rank-of2 .rank-of2 .ensures) e (c .before .form-of .ensures)
 
 pub compare-keys-spec : {M : Type 1} → statement M
 compare-keys-spec =

@@ -15,7 +15,9 @@ enum-told-2 : tie.Need-enum-told-2
 enum-told-2 c = search needs
 
 compare-field-requires : tie.Need-compare-field-requires
-compare-field-requires c κs = (c .before .before .before .before .before .pre .first, c .before .before .before .before .before .pre .second)
+compare-field-requires c κs =
+    let start = c .before .before .before .before .before in
+    (start .pre .first, start .pre .second)
 
 enum-told-3 : tie.Need-enum-told-3
 enum-told-3 c = search needs

@@ -10,9 +10,10 @@ value-at-requires c κs = search needs
 
 get-requires : tie.Need-get-requires
 get-requires c κs =
+    let start = c .before .before in
     let v = c .value-at .ensures in
     let n = part-length _ _ _ _ (v .1) (v .2) (v .0) in
-    (c .before .before .pre .1, omega (arith, c .before .before .pre .2))
+    (start .pre .1, omega (arith, start .pre .2))
 
 returns : tie.Need-returns
 returns c =

@@ -11,7 +11,9 @@ is-image-requires : tie.Need-is-image-requires
 is-image-requires c κs = search needs
 
 returns : tie.Need-returns
-returns c = broker-no-image (c .before .before .before .before .args .image .now) (c .before .before .before .before .args .out .now) (c .before .is-image .ensures) (c .if1 .taken) _
+returns c =
+    let start = c .before .before .before .before in
+    broker-no-image (start .args .image .now) (start .args .out .now) (c .before .is-image .ensures) (c .if1 .taken) _
 
 slice-aggregate-put : tie.Need-slice-aggregate-put
 slice-aggregate-put c = search needs
@@ -26,13 +28,23 @@ slice-aggregate-entry-2 : tie.Need-slice-aggregate-entry-2
 slice-aggregate-entry-2 c = search needs
 
 entry-requires : tie.Need-entry-requires
-entry-requires c κs = (image-is (c .before .before .before .before .before .before .before .before .before .before .args .image .now) (c .before .before .before .before .before .before .before .before .before .before .args .image .now) (c .before .before .before .before .before .before .before .is-image .ensures) (c .before .before .before .before .before .before .if1 .left), broker-query _ (ap length (c .before .before .before .before .put .ensures)))
+entry-requires c κs =
+    let at-put = c .before .before .before .before in
+    let at-if1 = at-put .before .before in
+    let at-is-image = at-if1 .before in
+    let start = at-is-image .before .before .before in
+    (image-is (start .args .image .now) (start .args .image .now) (at-is-image .is-image .ensures) (at-if1 .if1 .left), broker-query _ (ap length (at-put .put .ensures)))
 
 same-length : tie.Need-same-length
 same-length c = search needs
 
 returns-2 : tie.Need-returns-2
-returns-2 c = broker-found (c .before .before .before .before .before .before .before .before .before .before .before .before .before .args .image .now) (c .before .before .before .before .before .before .before .before .before .before .before .before .before .args .out .now) (c .before .before .before .before .before .before .before .before .before .before .is-image .ensures) (c .before .before .before .before .before .before .before .before .before .if1 .left) _ _ (c .before .before .before .before .before .before .before .put .ensures) (c .before .before .entry .ensures)
+returns-2 c =
+    let at-put = c .before .before .before .before .before .before .before in
+    let at-if1 = at-put .before .before in
+    let at-is-image = at-if1 .before in
+    let start = at-is-image .before .before .before in
+    broker-found (start .args .image .now) (start .args .out .now) (at-is-image .is-image .ensures) (at-if1 .if1 .left) _ _ (at-put .put .ensures) (c .before .before .entry .ensures)
 
 pub broker-spec : {M : Type 1} → statement M
 broker-spec =

@@ -29,9 +29,11 @@ same-length c = search needs
 
 returns : tie.Need-returns
 returns c =
+    let at-reals-end = c .before .before .before .before .before in
+    let start = at-reals-end .before .before .before .before .before in
     let e = c .before .before .emit-found .ensures in
-    let same = lent-found _ (c .before .before .before .before .before .reals-end .ensures) _ in
-    (e .0 ∙ ap (λ x. emit x (c .before .before .before .before .before .before .before .before .before .before .args .out .now) .reply) same, e .1 ∙ ap (λ x. emit x (c .before .before .before .before .before .before .before .before .before .before .args .out .now) .buffer) same)
+    let same = lent-found _ (at-reals-end .reals-end .ensures) _ in
+    (e .0 ∙ ap (λ x. emit x (start .args .out .now) .reply) same, e .1 ∙ ap (λ x. emit x (start .args .out .now) .buffer) same)
 
 pub entry-spec : {M : Type 1} → statement M
 entry-spec =

@@ -30,10 +30,20 @@ enum-told : tie.Need-enum-told
 enum-told c = search needs
 
 returns : tie.Need-returns
-returns c = ap (λ x. ratedAs (rated x)) (sym (c .before .n .given .1)) ∙ rate-as (c .before .before .before .before .before .before .before .before .args .image .now) (c .before .before .before .before .before .reals-end .ensures) (c .before .before .before .before .before .before .before .before .args .node .0) (c .before .before .before .before .before .before .before .before .args .name .now) (c .before .before .before .rate-in .result) (c .before .before .before .rate-in .ensures)
+returns c =
+    let at-rate-in = c .before .before .before in
+    let at-reals-end = at-rate-in .before .before in
+    let start = at-reals-end .before .before .before in
+    ap (λ x. ratedAs (rated x)) (sym (c .before .n .given .1)) ∙ rate-as (start .args .image .now) (at-reals-end .reals-end .ensures) (start .args .node .0)
+    (start .args .name .now) (at-rate-in .rate-in .result) (at-rate-in .rate-in .ensures)
 
 returns-2 : tie.Need-returns-2
-returns-2 c = ap (λ x. ratedAs (rated x)) (sym (c .enum-told .given .1)) ∙ rate-as (c .before .before .before .before .before .before .before .args .image .now) (c .before .before .before .before .reals-end .ensures) (c .before .before .before .before .before .before .before .args .node .0) (c .before .before .before .before .before .before .before .args .name .now) (c .before .before .rate-in .result) (c .before .before .rate-in .ensures)
+returns-2 c =
+    let at-rate-in = c .before .before in
+    let at-reals-end = at-rate-in .before .before in
+    let start = at-reals-end .before .before .before in
+    ap (λ x. ratedAs (rated x)) (sym (c .enum-told .given .1)) ∙ rate-as (start .args .image .now) (at-reals-end .reals-end .ensures) (start .args .node .0)
+    (start .args .name .now) (at-rate-in .rate-in .result) (at-rate-in .rate-in .ensures)
 
 pub rate-spec : {M : Type 1} → statement M
 rate-spec =

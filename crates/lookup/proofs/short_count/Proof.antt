@@ -9,10 +9,14 @@ is-image-requires : tie.Need-is-image-requires
 is-image-requires c κs = search needs
 
 returns : tie.Need-returns
-returns c = short-no-image (c .before .before .before .args .image .now) (c .before .before .before .args .image .now) (c .before .is-image .ensures) (c .if1 .taken)
+returns c =
+    let start = c .before .before .before in
+    short-no-image (start .args .image .now) (start .args .image .now) (c .before .is-image .ensures) (c .if1 .taken)
 
 reals-end-requires : tie.Need-reals-end-requires
-reals-end-requires c κs = image-is (c .before .before .before .args .image .now) (c .before .before .before .args .image .now) (c .before .is-image .ensures) (c .if1 .left)
+reals-end-requires c κs =
+    let start = c .before .before .before in
+    image-is (start .args .image .now) (start .args .image .now) (c .before .is-image .ensures) (c .if1 .left)
 
 sub-short-in : tie.Need-sub-short-in
 sub-short-in c = search needs
@@ -27,7 +31,11 @@ short-in-requires : tie.Need-short-in-requires
 short-in-requires c κs = lent-entries _ (c .before .reals-end .ensures)
 
 returns-2 : tie.Need-returns-2
-returns-2 c = short-found (c .before .before .before .before .before .before .args .image .now) (c .before .before .before .before .before .before .args .image .now) (c .before .before .before .before .is-image .ensures) (c .before .before .before .if1 .left) (lent-held _ (c .before .before .reals-end .ensures)) (c .short-in .ensures)
+returns-2 c =
+    let at-if1 = c .before .before .before in
+    let at-is-image = at-if1 .before in
+    let start = at-is-image .before .before in
+    short-found (start .args .image .now) (start .args .image .now) (at-is-image .is-image .ensures) (at-if1 .if1 .left) (lent-held _ (c .before .before .reals-end .ensures)) (c .short-in .ensures)
 
 pub short-count-spec : {M : Type 1} → statement M
 short-count-spec =

@@ -9,10 +9,14 @@ is-image-requires : tie.Need-is-image-requires
 is-image-requires c κs = search needs
 
 returns : tie.Need-returns
-returns c = id-no-image (c .before .before .before .before .args .image .now) (c .before .before .before .before .args .out .now) (c .before .is-image .ensures) (c .if1 .taken) _
+returns c =
+    let start = c .before .before .before .before in
+    id-no-image (start .args .image .now) (start .args .out .now) (c .before .is-image .ensures) (c .if1 .taken) _
 
 reals-end-requires : tie.Need-reals-end-requires
-reals-end-requires c κs = image-is (c .before .before .before .before .args .image .now) (c .before .before .before .before .args .image .now) (c .before .is-image .ensures) (c .if1 .left)
+reals-end-requires c κs =
+    let start = c .before .before .before .before in
+    image-is (start .args .image .now) (start .args .image .now) (c .before .is-image .ensures) (c .if1 .left)
 
 sub-emit-named : tie.Need-sub-emit-named
 sub-emit-named c = search needs
@@ -24,13 +28,21 @@ part-emit-named-end : tie.Need-part-emit-named-end
 part-emit-named-end c = search needs
 
 emit-named-requires : tie.Need-emit-named-requires
-emit-named-requires c κs = (lent-entries _ (c .before .before .before .reals-end .ensures), lent-kept _ (c .before .before .before .reals-end .ensures))
+emit-named-requires c κs =
+    let at-reals-end = c .before .before .before in
+    (lent-entries _ (at-reals-end .reals-end .ensures), lent-kept _ (at-reals-end .reals-end .ensures))
 
 same-length : tie.Need-same-length
 same-length c = search needs
 
 returns-2 : tie.Need-returns-2
-returns-2 c = id-found (c .before .before .before .before .before .before .before .before .before .before .before .args .image .now) (c .before .before .before .before .before .before .before .before .before .before .before .args .out .now) (c .before .before .before .before .before .before .before .before .is-image .ensures) (c .before .before .before .before .before .before .before .if1 .left) _ (lent-held _ (c .before .before .before .before .before .before .reals-end .ensures)) (c .before .before .emit-named .ensures)
+returns-2 c =
+    let at-reals-end = c .before .before .before .before .before .before in
+    let at-if1 = at-reals-end .before in
+    let at-is-image = at-if1 .before in
+    let start = at-is-image .before .before .before in
+    id-found (start .args .image .now) (start .args .out .now) (at-is-image .is-image .ensures) (at-if1 .if1 .left) _ (lent-held _ (at-reals-end .reals-end .ensures))
+    (c .before .before .emit-named .ensures)
 
 pub topic-by-id-spec : {M : Type 1} → statement M
 topic-by-id-spec =

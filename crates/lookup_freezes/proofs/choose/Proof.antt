@@ -11,7 +11,9 @@ slice-aggregate-find : tie.Need-slice-aggregate-find
 slice-aggregate-find c = search needs
 
 find-requires : tie.Need-find-requires
-find-requires c κs = (c .before .before .before .pre .0, freeze-query _ _ (c .before .before .before .pre .2) (omega arith))
+find-requires c κs =
+    let start = c .before .before .before in
+    (start .pre .0, freeze-query _ _ (start .pre .2) (omega arith))
 
 -- the slice is of bytes
 bytes-in : (c : tie.After-find) → AreBytes (c .before .before .before .before .args .s .now)

@@ -8,7 +8,9 @@ is-internal-requires : tie.Need-is-internal-requires
 is-internal-requires c κs = search needs
 
 returns : tie.Need-returns
-returns c = internal-none (c .before .before .before .before .before .args .s .now) (c .before .before .before .before .before .args .name .now) (c .before .is-internal .ensures) (c .if1 .taken) (c .before .before .before .before .before .args .out .now)
+returns c =
+    let start = c .before .before .before .before .before in
+    internal-none (start .args .s .now) (start .args .name .now) (c .before .is-internal .ensures) (c .if1 .taken) (start .args .out .now)
 
 choose-requires : tie.Need-choose-requires
 choose-requires c κs = search needs

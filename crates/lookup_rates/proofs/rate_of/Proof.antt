@@ -29,13 +29,18 @@ unless-negative-requires : tie.Need-unless-negative-requires
 unless-negative-requires c κs = search needs
 
 returns-3 : tie.Need-returns-3
-returns-3 c = ap rated (c .unless-negative .ensures) ∙ minus-rate _ (omega (arith, c .before .before .before .before .before .before .if1 .left)) (c .before .before .if3 .taken) (c .before .magnitude-from2 .result) (c .before .magnitude-from2 .ensures)
+returns-3 c =
+    let at-if1 = c .before .before .before .before .before .before in
+    ap rated (c .unless-negative .ensures) ∙ minus-rate _ (omega (arith, at-if1 .if1 .left)) (c .before .before .if3 .taken) (c .before .magnitude-from2 .result) (c .before .magnitude-from2 .ensures)
 
 magnitude-from-requires-3 : tie.Need-magnitude-from-requires-3
 magnitude-from-requires-3 c κs = search needs
 
 returns-4 : tie.Need-returns-4
-returns-4 c = plain-rate _ (omega (arith, c .before .before .before .before .before .if1 .left)) (c .before .before .before .if2 .left) (c .before .if3 .left) (c .magnitude-from3 .result) (c .magnitude-from3 .ensures)
+returns-4 c =
+    let at-if2 = c .before .before .before in
+    let at-if1 = at-if2 .before .before in
+    plain-rate _ (omega (arith, at-if1 .if1 .left)) (at-if2 .if2 .left) (c .before .if3 .left) (c .magnitude-from3 .result) (c .magnitude-from3 .ensures)
 
 pub rate-of-spec : {M : Type 1} → statement M
 rate-of-spec =

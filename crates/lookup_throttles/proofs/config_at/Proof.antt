@@ -16,19 +16,34 @@ slice-aggregate-find : tie.Need-slice-aggregate-find
 slice-aggregate-find c = search needs
 
 find-requires : tie.Need-find-requires
-find-requires c κs = (c .before .before .before .before .before .before .pre .0, config-query (c .before .before .before .before .before .before .args .node .0) (c .before .before .before .before .before .before .args .name .now) (c .before .before .put .ensures) (c .before .before .before .before .before .before .pre .1))
+find-requires c κs =
+    let start = c .before .before .before .before .before .before in
+    (start .pre .0, config-query (start .args .node .0) (start .args .name .now) (c .before .before .put .ensures) (start .pre .1))
 
 returns : tie.Need-returns
-returns c = no-config (c .before .before .before .before .before .before .before .before .args .s .now) (c .before .before .before .before .before .before .before .before .args .node .0) _ (c .before .before .before .before .before .before .before .before .args .name .now) (c .before .before .before .before .put .ensures) (c .before .find .ensures) (c .if1 .taken)
+returns c =
+    let at-put = c .before .before .before .before in
+    let start = at-put .before .before .before .before in
+    no-config (start .args .s .now) (start .args .node .0) _ (start .args .name .now) (at-put .put .ensures) (c .before .find .ensures) (c .if1 .taken)
 
 add-t14 : tie.Need-add-t14
 add-t14 c = search needs
 
 field-requires : tie.Need-field-requires
-field-requires c κs = inside (c .before .before .before .before .before .before .before .before .args .s .now) (c .before .before .before .before .before .before .before .before .args .node .0) _ (c .before .before .before .before .before .before .before .before .args .name .now) (c .before .before .before .before .put .ensures) (c .before .find .ensures) (known-bytes (c .before .before .before .before .before .before .before .before .args .s .now) (λ i. omega (arith, c .before .before .before .before .before .before .before .shared-slice-known .given i))) (c .before .before .before .before .before .before .before .before .pre .0) (c .if1 .left)
+field-requires c κs =
+    let at-put = c .before .before .before .before in
+    let known = at-put .before .before .before in
+    let start = known .before in
+    inside (start .args .s .now) (start .args .node .0) _ (start .args .name .now) (at-put .put .ensures) (c .before .find .ensures)
+    (known-bytes (start .args .s .now) (λ i. omega (arith, known .shared-slice-known .given i))) (start .pre .0) (c .if1 .left)
 
 returns-2 : tie.Need-returns-2
-returns-2 c = config-found (c .before .before .before .before .before .before .before .before .before .args .s .now) (c .before .before .before .before .before .before .before .before .before .args .node .0) _ (c .before .before .before .before .before .before .before .before .before .args .name .now) (c .before .before .before .before .before .put .ensures) (c .before .before .find .ensures) (known-bytes (c .before .before .before .before .before .before .before .before .before .args .s .now) (λ i. omega (arith, c .before .before .before .before .before .before .before .before .shared-slice-known .given i))) (c .before .before .before .before .before .before .before .before .before .pre .0) (c .before .if1 .left) (c .field .result) (c .field .ensures)
+returns-2 c =
+    let at-put = c .before .before .before .before .before in
+    let known = at-put .before .before .before in
+    let start = known .before in
+    config-found (start .args .s .now) (start .args .node .0) _ (start .args .name .now) (at-put .put .ensures) (c .before .before .find .ensures)
+    (known-bytes (start .args .s .now) (λ i. omega (arith, known .shared-slice-known .given i))) (start .pre .0) (c .before .if1 .left) (c .field .result) (c .field .ensures)
 
 pub config-at-spec : {M : Type 1} → statement M
 config-at-spec =

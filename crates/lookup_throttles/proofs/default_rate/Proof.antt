@@ -14,7 +14,9 @@ enum-known-start : tie.Need-enum-known-start
 enum-known-start c = search needs
 
 add-end : tie.Need-add-end
-add-end c = omega (arith, part-in (c .before .before .before .config-at .result) (c .before .before .before .config-at .ensures .1) (c .before .start .given .1))
+add-end c =
+    let at-config-at = c .before .before .before in
+    omega (arith, part-in (at-config-at .config-at .result) (at-config-at .config-at .ensures .1) (c .before .start .given .1))
 
 sub-rate-of : tie.Need-sub-rate-of
 sub-rate-of c = search needs
@@ -23,7 +25,9 @@ part-rate-of-start : tie.Need-part-rate-of-start
 part-rate-of-start c = search needs
 
 part-rate-of-end : tie.Need-part-rate-of-end
-part-rate-of-end c = omega (arith, part-in (c .before .before .before .config-at .result) (c .before .before .before .config-at .ensures .1) (c .before .start .given .1))
+part-rate-of-end c =
+    let at-config-at = c .before .before .before in
+    omega (arith, part-in (at-config-at .config-at .result) (at-config-at .config-at .ensures .1) (c .before .start .given .1))
 
 rate-of-requires : tie.Need-rate-of-requires
 rate-of-requires c κs = search needs
@@ -32,7 +36,11 @@ enum-told : tie.Need-enum-told
 enum-told c = search needs
 
 returns : tie.Need-returns
-returns c = value-rate (c .before .before .before .before .before .before .before .before .args .s .now) (c .before .before .before .before .before .config-at .ensures .0) (c .before .before .before .start .given .1) (c .rate-of .ensures)
+returns c =
+    let at-start = c .before .before .before in
+    let at-config-at = at-start .before .before in
+    let start = at-config-at .before .before .before in
+    value-rate (start .args .s .now) (at-config-at .config-at .ensures .0) (at-start .start .given .1) (c .rate-of .ensures)
 
 returns-2 : tie.Need-returns-2
 returns-2 c = ap rateBy (no-value (c .before .before .before .before .before .args .s .now) (c .before .before .config-at .ensures .0) (c .enum-told .given .1))

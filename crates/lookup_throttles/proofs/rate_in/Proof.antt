@@ -13,7 +13,9 @@ enum-known-start : tie.Need-enum-known-start
 enum-known-start c = search needs
 
 add-end : tie.Need-add-end
-add-end c = omega (arith, part-in (c .before .before .before .config-at .result) (c .before .before .before .config-at .ensures .1) (c .before .start .given .1))
+add-end c =
+    let at-config-at = c .before .before .before in
+    omega (arith, part-in (at-config-at .config-at .result) (at-config-at .config-at .ensures .1) (c .before .start .given .1))
 
 sub-rate-of : tie.Need-sub-rate-of
 sub-rate-of c = search needs
@@ -22,7 +24,9 @@ part-rate-of-start : tie.Need-part-rate-of-start
 part-rate-of-start c = search needs
 
 part-rate-of-end : tie.Need-part-rate-of-end
-part-rate-of-end c = omega (arith, part-in (c .before .before .before .config-at .result) (c .before .before .before .config-at .ensures .1) (c .before .start .given .1))
+part-rate-of-end c =
+    let at-config-at = c .before .before .before in
+    omega (arith, part-in (at-config-at .config-at .result) (at-config-at .config-at .ensures .1) (c .before .start .given .1))
 
 rate-of-requires : tie.Need-rate-of-requires
 rate-of-requires c κs = search needs
@@ -34,12 +38,18 @@ default-rate-requires : tie.Need-default-rate-requires
 default-rate-requires c κs = search needs
 
 returns : tie.Need-returns
-returns c = own-value (c .before .before .before .before .before .before .before .before .args .s .now) (c .before .before .before .before .before .before .before .before .args .node .0) (c .before .before .before .before .before .before .before .before .args .name .now) _ (c .before .before .before .before .before .config-at .ensures .0) (c .before .before .before .start .given .1) (c .rate-of .ensures)
+returns c =
+    let at-start = c .before .before .before in
+    let at-config-at = at-start .before .before in
+    let start = at-config-at .before .before .before in
+    own-value (start .args .s .now) (start .args .node .0) (start .args .name .now) _ (at-config-at .config-at .ensures .0) (at-start .start .given .1) (c .rate-of .ensures)
 
 returns-2 : tie.Need-returns-2
 returns-2 c =
+    let at-config-at = c .before .before .before in
+    let start = at-config-at .before .before .before in
     c .default-rate .ensures
-    ∙ sym (default-rate (c .before .before .before .before .before .before .args .node .0) (c .before .before .before .before .before .before .args .name .now) _ (sym (no-value (c .before .before .before .before .before .before .args .s .now) (c .before .before .before .config-at .ensures .0) (c .before .enum-told .given .1))))
+    ∙ sym (default-rate (start .args .node .0) (start .args .name .now) _ (sym (no-value (start .args .s .now) (at-config-at .config-at .ensures .0) (c .before .enum-told .given .1))))
 
 pub rate-in-spec : {M : Type 1} → statement M
 rate-in-spec =

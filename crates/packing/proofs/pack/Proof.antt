@@ -25,9 +25,10 @@ returns c =
 
 returns-2 : tie.Need-returns-2
 returns-2 c =
-    let n = c .before .before .answer2 .given .0 .0 in
+    let at-answer2 = c .before .before in
+    let n = at-answer2 .answer2 .given .0 .0 in
     let whole : n * 4294967296 ≡ n * 4294967296 + 0 = omega arith in
-    c .alone .ensures ∙ whole ∙ ap (λ a. packed (replied a)) (sym (c .before .before .answer2 .given .1))
+    c .alone .ensures ∙ whole ∙ ap (λ a. packed (replied a)) (sym (at-answer2 .answer2 .given .1))
 
 pub pack-spec : {M : Type 1} → statement M
 pack-spec =

@@ -17,7 +17,10 @@ same-length : tie.Need-same-length
 same-length c = search needs
 
 returns : tie.Need-returns
-returns c = let a = c .before .before .before .before .before .before .before .before .before .before .args in field-written (a .out .now) (a .at) (a .tag) (a .v .now) (c .before .before .before .before .before .before .before .before .before .before .pre) (c .before .before .before .before .before .before .put-head .ensures) (c .before .before .copy .ensures)
+returns c =
+    let at-put-head = c .before .before .before .before .before .before in
+    let start = at-put-head .before .before .before .before in
+    let a = start .args in field-written (a .out .now) (a .at) (a .tag) (a .v .now) (start .pre) (at-put-head .put-head .ensures) (c .before .before .copy .ensures)
 
 pub put-field-spec : {M : Type 1} → statement M
 put-field-spec = tie.close (tie.spec put-head-requires add-copy copy-requires same-length returns)

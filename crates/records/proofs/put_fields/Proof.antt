@@ -21,7 +21,9 @@ abbrev μ-loop : tie.MeasureT-loop
 μ-loop out₀ at tags lengths values to₀ start₀ i₀ out to start i = length tags - i
 
 loop-holds : tie.Need-loop-holds Inv-loop μ-loop
-loop-holds c = (refl, omega arith, record { within = omega arith; whole = c .before .before .before .before .pre .0; fits = c .before .before .before .before .pre .1 }, refl)
+loop-holds c =
+    let start = c .before .before .before .before in
+    (refl, omega arith, record { within = omega arith; whole = start .pre .0; fits = start .pre .1 }, refl)
 
 mul-len : tie.Need-mul-len Inv-loop μ-loop
 mul-len c = omega (arith, length-there (c .before .loop .inv .2) (c .loop-test .taken))
@@ -51,10 +53,18 @@ put-field-requires : tie.Need-put-field-requires Inv-loop μ-loop
 put-field-requires c κs = field-fits (c .before .before .before .before .before .loop .inv .2) (c .before .before .before .before .loop-test .taken)
 
 add-to : tie.Need-add-to Inv-loop μ-loop
-add-to c = omega (arith, rest-fits (c .before .before .before .before .before .before .before .before .loop .inv .2) (c .before .before .before .before .before .before .before .loop-test .taken), c .before .before .before .before .before .before .before .before .before .before .before .before .before .good)
+add-to c =
+    let at-loop-test = c .before .before .before .before .before .before .before in
+    let at-loop = at-loop-test .before in
+    let at-good = at-loop .before .before .before .before .before in
+    omega (arith, rest-fits (at-loop .loop .inv .2) (at-loop-test .loop-test .taken), at-good .good)
 
 add-to-2 : tie.Need-add-to-2 Inv-loop μ-loop
-add-to-2 c = omega (arith, rest-fits (c .before .before .before .before .before .before .before .before .loop .inv .2) (c .before .before .before .before .before .before .before .loop-test .taken), c .before .before .before .before .before .before .before .before .before .before .before .before .before .good)
+add-to-2 c =
+    let at-loop-test = c .before .before .before .before .before .before .before in
+    let at-loop = at-loop-test .before in
+    let at-good = at-loop .before .before .before .before .before in
+    omega (arith, rest-fits (at-loop .loop .inv .2) (at-loop-test .loop-test .taken), at-good .good)
 
 add-i : tie.Need-add-i Inv-loop μ-loop
 add-i c = omega (arith, c .before .before .before .before .before .before .before .before .before .before .before .before .before .good)

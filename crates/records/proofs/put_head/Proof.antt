@@ -20,7 +20,9 @@ same-length : tie.Need-same-length
 same-length c = let a = c .before .before .before .before .before .args in omega (arith, c .before .before .put .kept .0, length-set (a .out .now) (a .at) (a .first))
 
 returns : tie.Need-returns
-returns c = let a = c .before .before .before .before .before .args in c .before .before .put .ensures ∙ head-written (a .out .now) (a .at) (a .first) (a .len) (c .before .before .before .before .before .pre)
+returns c =
+    let start = c .before .before .before .before .before in
+    let a = start .args in c .before .before .put .ensures ∙ head-written (a .out .now) (a .at) (a .first) (a .len) (start .pre)
 
 pub put-head-spec : {M : Type 1} → statement M
 put-head-spec = tie.close (tie.spec slice-write-out add-put put-requires same-length returns)

@@ -25,7 +25,11 @@ base-from-requires : tie.Need-base-from-requires
 base-from-requires c κs = search needs
 
 returns-3 : tie.Need-returns-3
-returns-3 c = read-unknown _ _ _ (c .before .before .before .before .get16 .ensures .0) (c .before .before .before .before .before .if1 .left) (c .before .before .before .if2 .left) (c .before .base-from .ensures) (c .if3 .taken)
+returns-3 c =
+    let at-if2 = c .before .before .before in
+    let at-get16 = at-if2 .before in
+    let at-if1 = at-get16 .before in
+    read-unknown _ _ _ (at-get16 .get16 .ensures .0) (at-if1 .if1 .left) (at-if2 .if2 .left) (c .before .base-from .ensures) (c .if3 .taken)
 
 add-end : tie.Need-add-end
 add-end c = search needs
@@ -34,16 +38,28 @@ no-key-requires : tie.Need-no-key-requires
 no-key-requires c κs = search needs
 
 faults-requires : tie.Need-faults-requires
-faults-requires c κs = (c .before .before .before .before .before .before .before .before .before .pre, kind-base _ _ (c .before .before .base-from .ensures) (c .before .if3 .left), search needs, rw (c .no-key .ensures) (omega arith))
+faults-requires c κs =
+    let start = c .before .before .before .before .before .before .before .before .before in
+    (start .pre, kind-base _ _ (c .before .before .base-from .ensures) (c .before .if3 .left), search needs, rw (c .no-key .ensures) (omega arith))
 
 returns-4 : tie.Need-returns-4
 returns-4 c =
-    read-faulty _ _ _ (c .before .before .before .before .before .before .before .get16 .ensures .0) (c .before .before .before .before .before .before .before .before .if1 .left) (c .before .before .before .before .before .before .if2 .left) (c .before .before .before .before .base-from .ensures) (c .before .before .before .if3 .left) (c .before .faults .ensures)
+    let at-if3 = c .before .before .before in
+    let at-base-from = at-if3 .before in
+    let at-if2 = at-base-from .before .before in
+    let at-get16 = at-if2 .before in
+    let at-if1 = at-get16 .before in
+    read-faulty _ _ _ (at-get16 .get16 .ensures .0) (at-if1 .if1 .left) (at-if2 .if2 .left) (at-base-from .base-from .ensures) (at-if3 .if3 .left) (c .before .faults .ensures)
     (c .if4 .taken)
 
 returns-5 : tie.Need-returns-5
 returns-5 c =
-    read-right _ _ _ (c .before .before .before .before .before .before .before .get16 .ensures .0) (c .before .before .before .before .before .before .before .before .if1 .left) (c .before .before .before .before .before .before .if2 .left) (c .before .before .before .before .base-from .ensures) (c .before .before .before .if3 .left) (c .before .faults .ensures)
+    let at-if3 = c .before .before .before in
+    let at-base-from = at-if3 .before in
+    let at-if2 = at-base-from .before .before in
+    let at-get16 = at-if2 .before in
+    let at-if1 = at-get16 .before in
+    read-right _ _ _ (at-get16 .get16 .ensures .0) (at-if1 .if1 .left) (at-if2 .if2 .left) (at-base-from .base-from .ensures) (at-if3 .if3 .left) (c .before .faults .ensures)
     (c .if4 .left)
 
 pub read-from-spec : {M : Type 1} → statement M

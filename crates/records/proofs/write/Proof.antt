@@ -28,9 +28,13 @@ put-head-requires c κs = search needs
 
 put-fields-requires : tie.Need-put-fields-requires
 put-fields-requires c κs =
-    let f = c .before .before .before .before .before .before .before .before .before .fields-fault .ensures in (
-      fields-whole _ _ _ _ f (c .before .before .before .before .before .before .before .before .if1 .left),
-      omega (arith, c .before .before .before .put-head .kept .0, body-is _ _ _ _ f (c .before .before .before .before .before .before .before .before .if1 .left) (c .before .before .before .before .before .before .before .body-length .ensures)),
+    let at-put-head = c .before .before .before in
+    let at-body-length = at-put-head .before .before .before .before in
+    let at-if1 = at-body-length .before in
+    let at-fields-fault = at-if1 .before in
+    let f = at-fields-fault .fields-fault .ensures in (
+      fields-whole _ _ _ _ f (at-if1 .if1 .left),
+      omega (arith, at-put-head .put-head .kept .0, body-is _ _ _ _ f (at-if1 .if1 .left) (at-body-length .body-length .ensures)),
     )
 
 same-length : tie.Need-same-length
@@ -38,8 +42,14 @@ same-length c = search needs
 
 returns-3 : tie.Need-returns-3
 returns-3 c =
-    write-right _ _ _ _ (c .before .before .before .before .before .before .before .before .before .before .before .before .fields-fault .ensures) (c .before .before .before .before .before .before .before .before .before .before .before .if1 .left) (c .before .before .before .before .before .before .before .before .before .before .body-length .ensures) _ (c .before .before .before .before .before .before .before .before .before .if2 .left) (c .before .before .before .before .before .before .before .kind-number .ensures)
-    (c .before .before .before .before .before .before .put-head .ensures) (c .before .before .put-fields .ensures)
+    let at-put-head = c .before .before .before .before .before .before in
+    let at-kind-number = at-put-head .before in
+    let at-if2 = at-kind-number .before .before in
+    let at-body-length = at-if2 .before in
+    let at-if1 = at-body-length .before in
+    let at-fields-fault = at-if1 .before in
+    write-right _ _ _ _ (at-fields-fault .fields-fault .ensures) (at-if1 .if1 .left) (at-body-length .body-length .ensures) _ (at-if2 .if2 .left) (at-kind-number .kind-number .ensures)
+    (at-put-head .put-head .ensures) (c .before .before .put-fields .ensures)
 
 pub write-spec : {M : Type 1} → statement M
 write-spec =

@@ -37,9 +37,10 @@ same-length-4 c = search needs
 
 returns : tie.Need-returns
 returns c =
-    let run = c .before .before .before .before .before .before .before .before .before .before .before .before .before .before in
+    let at-s = c .before .before .before .before .before .before in
+    let run = at-s .before .before .before .before .before .before .before .before in
     let s = run .before .before .before .before .before .before .before .before .before in
-    whole-laid (length (s .args .image .now)) (s .args .input .now) _ _ (run .run .ensures) (s .pre .0) (c .before .before .before .before .before .before .s .given .1) (c .before .before .lay .ensures)
+    whole-laid (length (s .args .image .now)) (s .args .input .now) _ _ (run .run .ensures) (s .pre .0) (at-s .s .given .1) (c .before .before .lay .ensures)
 
 same-length-5 : tie.Need-same-length-5
 same-length-5 c = search needs

@@ -31,7 +31,8 @@ used : (c : tie.After-n) → accepted (c .n .given .0 .0 ∷ []) ≡ readOf (c .
 used c = ap replied (sym (c .n .given .1)) ∙ c .before .before .read .ensures
 
 slice-aggregate-step : tie.Need-slice-aggregate-step
-slice-aggregate-step c = let n = c .before .before .before .before .before in record-length (n .before .before .before .before .before .before .before .args .input .now) (bytes-in (n .before .before .before)) (used n)
+slice-aggregate-step c =
+    let n = c .before .before .before .before .before in record-length (n .before .before .before .before .before .before .before .args .input .now) (bytes-in (n .before .before .before)) (used n)
 
 step-requires : tie.Need-step-requires
 step-requires c κs =
@@ -46,7 +47,10 @@ enum-known-s : tie.Need-enum-known-s
 enum-known-s c = search needs
 
 returns : tie.Need-returns
-returns c = let a = c .before .before .before .before .before .before .before .before .args in next-unread (a .w .now) (a .state) (a .capacity) (a .input .now) (ap replied (sym (c .before .number .given .1)) ∙ c .before .before .before .read .ensures)
+returns c =
+    let at-read = c .before .before .before in
+    let start = at-read .before .before .before .before .before in
+    let a = start .args in next-unread (a .w .now) (a .state) (a .capacity) (a .input .now) (ap replied (sym (c .before .number .given .1)) ∙ at-read .read .ensures)
 
 same-length : tie.Need-same-length
 same-length c = search needs

@@ -12,31 +12,55 @@ is-capacity-requires : tie.Need-is-capacity-requires
 is-capacity-requires c κs = search needs
 
 returns : tie.Need-returns
-returns c = no-capacity (c .before .before .before .before .args .image .now) (c .before .before .before .before .args .input .now) (c .before .is-capacity .ensures) (c .if1 .taken)
+returns c =
+    let start = c .before .before .before .before in
+    no-capacity (start .args .image .now) (start .args .input .now) (c .before .is-capacity .ensures) (c .if1 .taken)
 
 slice-aggregate-rebuild : tie.Need-slice-aggregate-rebuild
 slice-aggregate-rebuild c = search needs
 
 rebuild-requires : tie.Need-rebuild-requires
-rebuild-requires c κs = omega (arith, capacity-least (length (c .before .before .before .before .before .before .args .image .now)) (capacity-kept (c .before .before .before .before .before .before .args .image .now) (c .before .before .before .before .before .before .args .input .now) (c .before .before .before .is-capacity .ensures) (c .before .before .if1 .left) (c .before .before .before .before .before .before .args .image .now) refl))
+rebuild-requires c κs =
+    let at-is-capacity = c .before .before .before in
+    let start = at-is-capacity .before .before .before in
+    omega (arith, capacity-least (length (start .args .image .now)) (capacity-kept (start .args .image .now) (start .args .input .now) (at-is-capacity .is-capacity .ensures) (c .before .before .if1 .left) (start .args .image .now) refl))
 
 same-length : tie.Need-same-length
 same-length c = search needs
 
 returns-2 : tie.Need-returns-2
-returns-2 c = copied (c .before .before .before .before .before .before .before .before .before .before .before .args .image .now) (c .before .before .before .before .before .before .before .before .before .before .before .args .input .now) (c .before .before .before .before .before .before .before .before .is-capacity .ensures) (c .before .before .before .before .before .before .before .if1 .left) _ (c .before .before .before .before .rebuild .kept .0) (c .before .before .before .before .rebuild .ensures) (c .if2 .taken)
+returns-2 c =
+    let at-rebuild = c .before .before .before .before in
+    let at-if1 = at-rebuild .before .before .before in
+    let at-is-capacity = at-if1 .before in
+    let start = at-is-capacity .before .before .before in
+    copied (start .args .image .now) (start .args .input .now) (at-is-capacity .is-capacity .ensures) (at-if1 .if1 .left) _ (at-rebuild .rebuild .kept .0)
+    (at-rebuild .rebuild .ensures) (c .if2 .taken)
 
 slice-aggregate-restore-each : tie.Need-slice-aggregate-restore-each
 slice-aggregate-restore-each c = search needs
 
 restore-each-requires : tie.Need-restore-each-requires
-restore-each-requires c κs = (capacity-kept (c .before .before .before .before .before .before .before .before .before .before .before .before .before .args .image .now) (c .before .before .before .before .before .before .before .before .before .before .before .before .before .args .input .now) (c .before .before .before .before .before .before .before .before .before .before .is-capacity .ensures) (c .before .before .before .before .before .before .before .before .before .if1 .left) (c .before .before .before .before .before .before .rebuild .last .0) (c .before .before .before .before .before .before .rebuild .kept .0), omega (arith, c .before .before .before .before .before .before .rebuild .kept .1 .0))
+restore-each-requires c κs =
+    let at-rebuild = c .before .before .before .before .before .before in
+    let at-if1 = at-rebuild .before .before .before in
+    let at-is-capacity = at-if1 .before in
+    let start = at-is-capacity .before .before .before in (
+      capacity-kept (start .args .image .now) (start .args .input .now) (at-is-capacity .is-capacity .ensures) (at-if1 .if1 .left) (at-rebuild .rebuild .last .0) (at-rebuild .rebuild .kept .0),
+      omega (arith, at-rebuild .rebuild .kept .1 .0),
+    )
 
 same-length-2 : tie.Need-same-length-2
 same-length-2 c = search needs
 
 returns-3 : tie.Need-returns-3
-returns-3 c = each (c .before .before .before .before .before .before .before .before .before .before .before .before .before .before .before .before .before .args .image .now) (c .before .before .before .before .before .before .before .before .before .before .before .before .before .before .before .before .before .args .input .now) (c .before .before .before .before .before .before .before .before .before .before .before .before .before .before .is-capacity .ensures) (c .before .before .before .before .before .before .before .before .before .before .before .before .before .if1 .left) _ (c .before .before .before .before .before .before .before .before .before .before .rebuild .kept .0) (c .before .before .before .restore-each .ensures)
+returns-3 c =
+    let at-restore-each = c .before .before .before in
+    let at-rebuild = at-restore-each .before .before .before .before .before .before .before in
+    let at-if1 = at-rebuild .before .before .before in
+    let at-is-capacity = at-if1 .before in
+    let start = at-is-capacity .before .before .before in
+    each (start .args .image .now) (start .args .input .now) (at-is-capacity .is-capacity .ensures) (at-if1 .if1 .left) _ (at-rebuild .rebuild .kept .0) (at-restore-each .restore-each .ensures)
 
 pub restore-spec : {M : Type 1} → statement M
 restore-spec =

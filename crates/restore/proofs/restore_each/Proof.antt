@@ -13,19 +13,29 @@ slice-aggregate-run-2 : tie.Need-slice-aggregate-run-2
 slice-aggregate-run-2 c = search needs
 
 run-requires : tie.Need-run-requires
-run-requires c κs = (c .before .before .before .before .before .before .pre .0, c .before .before .before .before .before .before .pre .1, omega arith, omega arith)
+run-requires c κs =
+    let start = c .before .before .before .before .before .before in
+    (start .pre .0, start .pre .1, omega arith, omega arith)
 
 enum-known-s : tie.Need-enum-known-s
 enum-known-s c = search needs
 
 lay-requires : tie.Need-lay-requires
-lay-requires c κs = done-lays (length (c .before .before .before .before .before .before .before .before .before .before .before .before .before .before .before .before .args .image .now)) (c .before .before .before .before .before .before .before .before .before .before .before .before .before .before .before .before .args .input .now) (c .before .before .before .before .before .before .before .before .before .run .last .0) _ (c .before .before .before .before .before .before .before .before .before .run .ensures) (c .before .before .before .s .given .1)
+lay-requires c κs =
+    let at-s = c .before .before .before in
+    let at-run = at-s .before .before .before .before .before .before in
+    let start = at-run .before .before .before .before .before .before .before in
+    done-lays (length (start .args .image .now)) (start .args .input .now) (at-run .run .last .0) _ (at-run .run .ensures) (at-s .s .given .1)
 
 enum-known-number : tie.Need-enum-known-number
 enum-known-number c = search needs
 
 lay-requires-2 : tie.Need-lay-requires-2
-lay-requires-2 c κs = unread-lays (length (c .before .before .before .before .before .before .before .before .before .before .before .before .before .before .before .before .args .image .now)) (c .before .before .before .before .before .before .before .before .before .before .before .before .before .before .before .before .args .input .now) (c .before .before .before .before .before .before .before .before .before .run .last .0) _ (c .before .before .before .before .before .before .before .before .before .run .ensures) (c .before .before .before .number .given .1)
+lay-requires-2 c κs =
+    let at-number = c .before .before .before in
+    let at-run = at-number .before .before .before .before .before .before in
+    let start = at-run .before .before .before .before .before .before .before in
+    unread-lays (length (start .args .image .now)) (start .args .input .now) (at-run .run .last .0) _ (at-run .run .ensures) (at-number .number .given .1)
 
 enum-known-number-2 : tie.Need-enum-known-number-2
 enum-known-number-2 c = search needs
@@ -37,10 +47,24 @@ slice-aggregate-lay-whole-2 : tie.Need-slice-aggregate-lay-whole-2
 slice-aggregate-lay-whole-2 c = search needs
 
 slice-aggregate-lay-whole-3 : tie.Need-slice-aggregate-lay-whole-3
-slice-aggregate-lay-whole-3 c = let k = refused-within (length (c .before .before .before .before .before .before .before .before .before .before .before .before .before .before .before .before .before .before .before .args .image .now)) (c .before .before .before .before .before .before .before .before .before .before .before .before .before .before .before .before .before .before .before .args .input .now) (c .before .before .before .before .before .before .before .before .before .before .before .before .run .last .0) _ (c .before .before .before .before .before .before .before .before .before .before .before .before .run .ensures) (c .before .before .before .before .before .before .number2 .given .1) in simp length-take (omega arith)
+slice-aggregate-lay-whole-3 c =
+    let at-number2 = c .before .before .before .before .before .before in
+    let at-run = at-number2 .before .before .before .before .before .before in
+    let start = at-run .before .before .before .before .before .before .before in
+    let k = refused-within (length (start .args .image .now)) (start .args .input .now) (at-run .run .last .0) _ (at-run .run .ensures)
+    (at-number2 .number2 .given .1) in simp length-take (omega arith)
 
 lay-whole-requires : tie.Need-lay-whole-requires
-lay-whole-requires c κs = (refused-whole (length (c .before .before .before .before .before .before .before .before .before .before .before .before .before .before .before .before .before .before .before .args .image .now)) (c .before .before .before .before .before .before .before .before .before .before .before .before .before .before .before .before .before .before .before .args .input .now) (c .before .before .before .before .before .before .before .before .before .before .before .before .run .last .0) _ (c .before .before .before .before .before .before .before .before .before .before .before .before .run .ensures) (c .before .before .before .before .before .before .number2 .given .1), c .before .before .before .before .before .before .before .before .before .before .before .before .before .before .before .before .before .before .before .pre .0, omega (arith, c .before .before .before .before .before .before .before .before .before .before .before .before .run .kept .0, c .before .before .before .before .before .before .before .before .before .before .before .before .before .before .before .before .before .before .before .pre .1), omega (arith, c .before .before .before .before .before .before .before .before .before .before .before .before .run .kept .1 .0), omega (arith, c .before .before .before .before .before .before .before .before .before .before .before .before .run .kept .1 .1 .0))
+lay-whole-requires c κs =
+    let at-number2 = c .before .before .before .before .before .before in
+    let at-run = at-number2 .before .before .before .before .before .before in
+    let start = at-run .before .before .before .before .before .before .before in (
+      refused-whole (length (start .args .image .now)) (start .args .input .now) (at-run .run .last .0) _ (at-run .run .ensures) (at-number2 .number2 .given .1),
+      start .pre .0,
+      omega (arith, at-run .run .kept .0, start .pre .1),
+      omega (arith, at-run .run .kept .1 .0),
+      omega (arith, at-run .run .kept .1 .1 .0),
+    )
 
 same-length : tie.Need-same-length
 same-length c = search needs
@@ -49,7 +73,11 @@ same-length-2 : tie.Need-same-length-2
 same-length-2 c = search needs
 
 returns : tie.Need-returns
-returns c = laid-done (c .before .before .before .before .before .before .before .before .before .before .before .before .before .before .before .before .before .before .before .args .image .now) (c .before .before .before .before .before .before .before .before .before .before .before .before .before .before .before .before .before .before .before .args .input .now) (c .before .before .before .before .before .before .before .before .before .before .before .before .before .before .before .before .before .before .before .pre .0) (c .before .before .before .before .before .before .before .before .before .before .before .before .run .last .0) _ (c .before .before .before .before .before .before .before .before .before .before .before .before .run .ensures) (c .before .before .before .before .before .before .s .given .1) (c .before .before .lay .ensures)
+returns c =
+    let at-s = c .before .before .before .before .before .before in
+    let at-run = at-s .before .before .before .before .before .before in
+    let start = at-run .before .before .before .before .before .before .before in
+    laid-done (start .args .image .now) (start .args .input .now) (start .pre .0) (at-run .run .last .0) _ (at-run .run .ensures) (at-s .s .given .1) (c .before .before .lay .ensures)
 
 same-length-3 : tie.Need-same-length-3
 same-length-3 c = search needs
@@ -58,7 +86,11 @@ same-length-4 : tie.Need-same-length-4
 same-length-4 c = search needs
 
 returns-2 : tie.Need-returns-2
-returns-2 c = laid-unread (c .before .before .before .before .before .before .before .before .before .before .before .before .before .before .before .before .before .before .before .args .image .now) (c .before .before .before .before .before .before .before .before .before .before .before .before .before .before .before .before .before .before .before .args .input .now) (c .before .before .before .before .before .before .before .before .before .before .before .before .before .before .before .before .before .before .before .pre .0) (c .before .before .before .before .before .before .before .before .before .before .before .before .run .last .0) _ (c .before .before .before .before .before .before .before .before .before .before .before .before .run .ensures) (c .before .before .before .before .before .before .number .given .1) (c .before .before .lay2 .ensures)
+returns-2 c =
+    let at-number = c .before .before .before .before .before .before in
+    let at-run = at-number .before .before .before .before .before .before in
+    let start = at-run .before .before .before .before .before .before .before in
+    laid-unread (start .args .image .now) (start .args .input .now) (start .pre .0) (at-run .run .last .0) _ (at-run .run .ensures) (at-number .number .given .1) (c .before .before .lay2 .ensures)
 
 same-length-5 : tie.Need-same-length-5
 same-length-5 c = search needs
@@ -67,7 +99,12 @@ same-length-6 : tie.Need-same-length-6
 same-length-6 c = search needs
 
 returns-3 : tie.Need-returns-3
-returns-3 c = laid-refused (c .before .before .before .before .before .before .before .before .before .before .before .before .before .before .before .before .before .before .before .before .before .before .before .before .before .before .args .image .now) (c .before .before .before .before .before .before .before .before .before .before .before .before .before .before .before .before .before .before .before .before .before .before .before .before .before .before .args .input .now) (c .before .before .before .before .before .before .before .before .before .before .before .before .before .before .before .before .before .before .before .before .before .before .before .before .before .before .pre .0) (c .before .before .before .before .before .before .before .before .before .before .before .before .before .before .before .before .before .before .before .run .last .0) _ (c .before .before .before .before .before .before .before .before .before .before .before .before .before .before .before .before .before .before .before .run .ensures) (c .before .before .before .before .before .before .before .before .before .before .before .before .before .number2 .given .1) (c .before .before .before .before .before .before .lay-whole .ensures)
+returns-3 c =
+    let at-lay-whole = c .before .before .before .before .before .before in
+    let at-number2 = at-lay-whole .before .before .before .before .before .before .before in
+    let at-run = at-number2 .before .before .before .before .before .before in
+    let start = at-run .before .before .before .before .before .before .before in
+    laid-refused (start .args .image .now) (start .args .input .now) (start .pre .0) (at-run .run .last .0) _ (at-run .run .ensures) (at-number2 .number2 .given .1) (at-lay-whole .lay-whole .ensures)
 
 pub restore-each-spec : {M : Type 1} → statement M
 restore-each-spec =

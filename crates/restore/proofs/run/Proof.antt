@@ -41,9 +41,10 @@ enum-known-s c = search needs
 places : (c : tie.After-s Inv-loop μ-loop)
     → (let l = c .before .before .before .before .before .before .before .before .before .before .before .before .before .before in let n = c .s .given .0 .1 .0 in (0 < n) × (l .loop .at + n ≤ length (l .before .before .before .before .before .args .input .now)))
 places c =
-    let l = c .before .before .before .before .before .before .before .before .before .before .before .before .before .before in
+    let at-next-record = c .before .before .before .before .before .before .before .before in
+    let l = at-next-record .before .before .before .before .before .before in
     let a = l .before .before .before .before .before .args in
-    turn-places (a .capacity) (a .input .now) _ _ (l .loop .state) (l .loop .inv .0) (c .before .before .before .before .before .before .before .before .next-record .last .0) _ (c .before .before .before .before .before .before .before .before .next-record .ensures) (c .s .given .1)
+    turn-places (a .capacity) (a .input .now) _ _ (l .loop .state) (l .loop .inv .0) (at-next-record .next-record .last .0) _ (at-next-record .next-record .ensures) (c .s .given .1)
 
 add-at : tie.Need-add-at Inv-loop μ-loop
 add-at c = omega (arith, places (c .before))
@@ -66,32 +67,52 @@ enum-known-number : tie.Need-enum-known-number Inv-loop μ-loop
 enum-known-number c = search needs
 
 same-length : tie.Need-same-length Inv-loop μ-loop
-same-length c = omega (arith, c .before .before .before .before .before .before .before .before .before .before .before .before .before .before .before .loop .inv .1, c .before .before .before .before .before .before .before .before .before .next-record .kept .0)
+same-length c =
+    let at-next-record = c .before .before .before .before .before .before .before .before .before in
+    let at-loop = at-next-record .before .before .before .before .before .before in
+    omega (arith, at-loop .loop .inv .1, at-next-record .next-record .kept .0)
 
 same-length-2 : tie.Need-same-length-2 Inv-loop μ-loop
-same-length-2 c = omega (arith, c .before .before .before .before .before .before .before .before .before .before .before .before .before .before .before .loop .inv .2, c .before .before .before .before .before .before .before .before .before .next-record .kept .1 .0)
+same-length-2 c =
+    let at-next-record = c .before .before .before .before .before .before .before .before .before in
+    let at-loop = at-next-record .before .before .before .before .before .before in
+    omega (arith, at-loop .loop .inv .2, at-next-record .next-record .kept .1 .0)
 
 same-length-3 : tie.Need-same-length-3 Inv-loop μ-loop
-same-length-3 c = omega (arith, c .before .before .before .before .before .before .before .before .before .before .before .before .before .before .before .loop .inv .3, c .before .before .before .before .before .before .before .before .before .next-record .kept .1 .1 .0)
+same-length-3 c =
+    let at-next-record = c .before .before .before .before .before .before .before .before .before in
+    let at-loop = at-next-record .before .before .before .before .before .before in
+    omega (arith, at-loop .loop .inv .3, at-next-record .next-record .kept .1 .1 .0)
 
 returns : tie.Need-returns Inv-loop μ-loop
 returns c =
-    let l = c .before .before .before .before .before .before .before .before .before .before .before .before .before .before .before in
+    let at-next-record = c .before .before .before .before .before .before .before .before .before in
+    let at-loop-test = at-next-record .before .before .before .before .before in
+    let l = at-loop-test .before in
     let a = l .before .before .before .before .before .args in
-    let next = c .before .before .before .before .before .before .before .before .before .next-record in
-    ran-unread (a .capacity) (a .input .now) _ _ (l .loop .state) (l .loop .inv .0) (next .last .0) _ (next .ensures) (c .before .before .before .before .before .before .before .before .before .before .before .before .before .before .loop-test .taken) (c .before .number .given .1)
+    let next = at-next-record .next-record in
+    ran-unread (a .capacity) (a .input .now) _ _ (l .loop .state) (l .loop .inv .0) (next .last .0) _ (next .ensures) (at-loop-test .loop-test .taken) (c .before .number .given .1)
 
 enum-known-number-2 : tie.Need-enum-known-number-2 Inv-loop μ-loop
 enum-known-number-2 c = search needs
 
 same-length-4 : tie.Need-same-length-4 Inv-loop μ-loop
-same-length-4 c = omega (arith, c .before .before .before .before .before .before .before .before .before .before .before .before .before .before .before .loop .inv .1, c .before .before .before .before .before .before .before .before .before .next-record .kept .0)
+same-length-4 c =
+    let at-next-record = c .before .before .before .before .before .before .before .before .before in
+    let at-loop = at-next-record .before .before .before .before .before .before in
+    omega (arith, at-loop .loop .inv .1, at-next-record .next-record .kept .0)
 
 same-length-5 : tie.Need-same-length-5 Inv-loop μ-loop
-same-length-5 c = omega (arith, c .before .before .before .before .before .before .before .before .before .before .before .before .before .before .before .loop .inv .2, c .before .before .before .before .before .before .before .before .before .next-record .kept .1 .0)
+same-length-5 c =
+    let at-next-record = c .before .before .before .before .before .before .before .before .before in
+    let at-loop = at-next-record .before .before .before .before .before .before in
+    omega (arith, at-loop .loop .inv .2, at-next-record .next-record .kept .1 .0)
 
 same-length-6 : tie.Need-same-length-6 Inv-loop μ-loop
-same-length-6 c = omega (arith, c .before .before .before .before .before .before .before .before .before .before .before .before .before .before .before .loop .inv .3, c .before .before .before .before .before .before .before .before .before .next-record .kept .1 .1 .0)
+same-length-6 c =
+    let at-next-record = c .before .before .before .before .before .before .before .before .before in
+    let at-loop = at-next-record .before .before .before .before .before .before in
+    omega (arith, at-loop .loop .inv .3, at-next-record .next-record .kept .1 .1 .0)
 
 returns-2 : tie.Need-returns-2 Inv-loop μ-loop
 returns-2 c =

@@ -40,7 +40,11 @@ returns-2 : tie.Need-returns-2
 returns-2 c = search needs
 
 is-steady-requires : tie.Need-is-steady-requires
-is-steady-requires c κs = image-is (c .before .before .before .before .before .before .before .before .before .before .before .before .before .before .args .image .now) (c .before .before .before .before .before .before .before .before .before .before .before .before .before .before .args .w .now) (sym (ap replied (c .before .before .before .before .before .n .given .1)) ∙ c .before .before .before .before .before .before .before .before .before .snapshot .ensures .0)
+is-steady-requires c κs =
+    let at-n = c .before .before .before .before .before in
+    let at-snapshot = at-n .before .before .before .before in
+    let start = at-snapshot .before .before .before .before .before in
+    image-is (start .args .image .now) (start .args .w .now) (sym (ap replied (at-n .n .given .1)) ∙ at-snapshot .snapshot .ensures .0)
 
 same-length-3 : tie.Need-same-length-3
 same-length-3 c = search needs
@@ -52,7 +56,14 @@ same-length-4 : tie.Need-same-length-4
 same-length-4 c = search needs
 
 returns-4 : tie.Need-returns-4
-returns-4 c = rebuilt (c .before .before .before .before .before .before .before .before .before .before .before .before .before .before .before .args .image .now) (c .before .before .before .before .before .before .before .before .before .before .before .before .before .before .before .args .w .now) (sym (ap replied (c .before .before .before .before .before .before .n .given .1)) ∙ c .before .before .before .before .before .before .before .before .before .before .snapshot .ensures .0) _ (c .before .before .before .before .before .before .before .before .before .before .before .before .before .before .before .args .input .now) (known-bytes (c .before .before .before .before .before .before .before .before .before .before .before .before .before .before .before .args .image .now) (λ i. omega (arith, c .before .before .before .before .before .before .before .before .before .before .before .before .before .before .shared-slice-known .given i))) (c .before .before .before .before .before .before .before .before .before .before .snapshot .ensures .1) (rw (c .before .before .same .ensures) at (c .before .if2 .left)) (c .is-steady .result) (c .is-steady .ensures)
+returns-4 c =
+    let at-n = c .before .before .before .before .before .before in
+    let at-snapshot = at-n .before .before .before .before in
+    let known = at-snapshot .before .before .before .before in
+    let start = known .before in
+    rebuilt (start .args .image .now) (start .args .w .now) (sym (ap replied (at-n .n .given .1)) ∙ at-snapshot .snapshot .ensures .0) _ (start .args .input .now)
+    (known-bytes (start .args .image .now) (λ i. omega (arith, known .shared-slice-known .given i))) (at-snapshot .snapshot .ensures .1)
+    (rw (c .before .before .same .ensures) at (c .before .if2 .left)) (c .is-steady .result) (c .is-steady .ensures)
 
 pub is-snapshot-of-spec : {M : Type 1} → statement M
 is-snapshot-of-spec =

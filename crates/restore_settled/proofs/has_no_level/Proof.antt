@@ -35,31 +35,41 @@ bytes-in c = known-bytes (c .before .before .before .args .s .now) (λ i. omega 
 -- the entry that a step found
 entry : (c : tie.After-start Inv-loop μ-loop)
     → Stands (c .before .before .before .before .before .args .s .now) (c .before .before .before .loop .c .at) (c .start .given .0 .0) (c .start .given .0 .1 .0) (c .start .given .0 .1 .1 .0)
-entry c = stands _ (bytes-in (c .before .before)) _ (c .before .before .before .loop .inv .entries) (c .before .before .next .ensures) (c .start .given .1)
+entry c =
+    let at-next = c .before .before in
+    stands _ (bytes-in at-next) _ (c .before .before .before .loop .inv .entries) (at-next .next .ensures) (c .start .given .1)
 
 shared-slice-read-if1 : tie.Need-shared-slice-read-if1 Inv-loop μ-loop
 shared-slice-read-if1 c = let t = entry (c .before .before) in omega (arith, t .first, t .last, t .entry .fits)
 
 returns : tie.Need-returns Inv-loop μ-loop
-returns c = failed (c .before .before .before .before .before .before .loop .inv) (entry (c .before .before .before)) (level-here (entry (c .before .before .before)) (c .if1 .taken)) refl
+returns c =
+    let here = c .before .before .before in
+    failed (c .before .before .before .before .before .before .loop .inv) (entry here) (level-here (entry here) (c .if1 .taken)) refl
 
 loop-less : tie.Need-loop-less Inv-loop μ-loop
 loop-less c = turn-falls _ _ _ _ _ (entry (c .before .before .before))
 
 loop-again : tie.Need-loop-again Inv-loop μ-loop
-loop-again c = passed (c .before .before .before .before .before .before .loop .inv) (entry (c .before .before .before)) (no-level-here (entry (c .before .before .before)) (c .if1 .left)) refl
+loop-again c =
+    let here = c .before .before .before in
+    passed (c .before .before .before .before .before .before .loop .inv) (entry here) (no-level-here (entry here) (c .if1 .left)) refl
 
 enum-told : tie.Need-enum-told Inv-loop μ-loop
 enum-told c = search needs
 
 returns-2 : tie.Need-returns-2 Inv-loop μ-loop
-returns-2 c = not-torn _ (bytes-in (c .before .before)) _ (c .before .before .before .loop .inv .entries) (c .before .before .next .ensures) (c .enum-told .given .1)
+returns-2 c =
+    let at-next = c .before .before in
+    not-torn _ (bytes-in at-next) _ (c .before .before .before .loop .inv .entries) (at-next .next .ensures) (c .enum-told .given .1)
 
 enum-told-2 : tie.Need-enum-told-2 Inv-loop μ-loop
 enum-told-2 c = search needs
 
 returns-3 : tie.Need-returns-3 Inv-loop μ-loop
-returns-3 c = let h = c .before .before .before .loop .inv in asked-all h (ended _ (bytes-in (c .before .before)) _ (h .entries) (c .before .before .next .ensures) (c .enum-told2 .given .1))
+returns-3 c =
+    let at-next = c .before .before in
+    let h = c .before .before .before .loop .inv in asked-all h (ended _ (bytes-in at-next) _ (h .entries) (at-next .next .ensures) (c .enum-told2 .given .1))
 
 pub has-no-level-spec : {M : Type 1} → statement M
 has-no-level-spec =

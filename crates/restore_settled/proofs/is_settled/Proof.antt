@@ -37,7 +37,9 @@ bytes-in c = known-bytes (c .before .before .before .args .s .now) (λ i. omega 
 -- the entry that a step found
 entry : (c : tie.After-start Inv-loop μ-loop)
     → Stands (c .before .before .before .before .before .args .s .now) (c .before .before .before .loop .c .at) (c .start .given .0 .0) (c .start .given .0 .1 .0) (c .start .given .0 .1 .1 .0)
-entry c = stands _ (bytes-in (c .before .before)) _ (c .before .before .before .loop .inv .merged .entries) (c .before .before .next .ensures) (c .start .given .1)
+entry c =
+    let at-next = c .before .before in
+    stands _ (bytes-in at-next) _ (c .before .before .before .loop .inv .merged .entries) (at-next .next .ensures) (c .start .given .1)
 
 shared-slice-read-if1 : tie.Need-shared-slice-read-if1 Inv-loop μ-loop
 shared-slice-read-if1 c = let t = entry (c .before .before) in omega (arith, t .first, t .last, t .entry .fits)
@@ -46,7 +48,10 @@ loop-less : tie.Need-loop-less Inv-loop μ-loop
 loop-less c = turn-falls _ _ _ _ _ (entry (c .before .before .before))
 
 loop-again : tie.Need-loop-again Inv-loop μ-loop
-loop-again c = aligned-other (c .before .before .before .before .before .before .loop .inv) (entry (c .before .before .before)) (c .if1 .taken) (merged-other (c .before .before .before .before .before .before .loop .inv .merged) (entry (c .before .before .before)) (c .if1 .taken))
+loop-again c =
+    let here = c .before .before .before in
+    let at-loop = here .before .before .before in
+    aligned-other (at-loop .loop .inv) (entry here) (c .if1 .taken) (merged-other (at-loop .loop .inv .merged) (entry here) (c .if1 .taken))
 
 sub-tally-for : tie.Need-sub-tally-for Inv-loop μ-loop
 sub-tally-for c = omega (arith, bounds (entry (c .before .before .before)))
@@ -67,7 +72,10 @@ part-tally-for-end-2 : tie.Need-part-tally-for-end-2 Inv-loop μ-loop
 part-tally-for-end-2 c = omega (arith, c .before .before .before .before .before .before .before .loop .inv .merged .far)
 
 tally-for-requires : tie.Need-tally-for-requires Inv-loop μ-loop
-tally-for-requires c κs = let l = left-lent (c .before .before .before .before .before .before .before .before .loop .inv .merged) in (headed-here (entry (c .before .before .before .before .before)), widths-here (c .before .before .before .before .before .before .before .before .loop .inv) (entry (c .before .before .before .before .before)) (c .before .before .if1 .left) .1, l .0, l .1)
+tally-for-requires c κs =
+    let here = c .before .before .before .before .before in
+    let at-loop = here .before .before .before in
+    let l = left-lent (at-loop .loop .inv .merged) in (headed-here (entry here), widths-here (at-loop .loop .inv) (entry here) (c .before .before .if1 .left) .1, l .0, l .1)
 
 sub-agrees : tie.Need-sub-agrees Inv-loop μ-loop
 sub-agrees c = omega (arith, bounds (entry (c .before .before .before .before .before .before)))
@@ -79,31 +87,56 @@ part-agrees-end : tie.Need-part-agrees-end Inv-loop μ-loop
 part-agrees-end c = omega (arith, bounds (entry (c .before .before .before .before .before .before)))
 
 agrees-requires : tie.Need-agrees-requires Inv-loop μ-loop
-agrees-requires c κs = let w = widths-here (c .before .before .before .before .before .before .before .before .before .before .loop .inv) (entry (c .before .before .before .before .before .before .before)) (c .before .before .before .before .if1 .left) in (headed-here (entry (c .before .before .before .before .before .before .before)), w .0, w .1, w .2)
+agrees-requires c κs =
+    let at-if1 = c .before .before .before .before in
+    let here = at-if1 .before .before .before in
+    let at-loop = here .before .before .before in
+    let w = widths-here (at-loop .loop .inv) (entry here) (at-if1 .if1 .left) in (headed-here (entry here), w .0, w .1, w .2)
 
 returns : tie.Need-returns Inv-loop μ-loop
-returns c = aligned-fails (c .before .before .before .before .before .before .before .before .before .before .before .before .loop .inv) (entry (c .before .before .before .before .before .before .before .before .before)) (c .before .before .before .before .before .before .if1 .left) (c .before .before .before .tally-for .ensures) _ (c .before .agrees .ensures) (not-true _ (c .if2 .taken))
+returns c =
+    let at-tally-for = c .before .before .before in
+    let at-if1 = at-tally-for .before .before .before in
+    let here = at-if1 .before .before .before in
+    let at-loop = here .before .before .before in
+    aligned-fails (at-loop .loop .inv) (entry here) (at-if1 .if1 .left) (at-tally-for .tally-for .ensures) _ (c .before .agrees .ensures) (not-true _ (c .if2 .taken))
 
 add-from : tie.Need-add-from Inv-loop μ-loop
-add-from c = omega (arith, to-fits (c .before .before .before .before .before .before .before .before .before .before .before .before .before .loop .inv .merged) (entry (c .before .before .before .before .before .before .before .before .before .before)) (c .before .before .before .before .before .before .before .if1 .left) (c .before .before .before .before .tally-for .ensures .0))
+add-from c =
+    let at-tally-for = c .before .before .before .before in
+    let at-if1 = at-tally-for .before .before .before in
+    let here = at-if1 .before .before .before in
+    let at-loop = here .before .before .before in
+    omega (arith, to-fits (at-loop .loop .inv .merged) (entry here) (at-if1 .if1 .left) (at-tally-for .tally-for .ensures .0))
 
 loop-less-2 : tie.Need-loop-less-2 Inv-loop μ-loop
 loop-less-2 c = turn-falls _ _ _ _ _ (entry (c .before .before .before .before .before .before .before .before .before .before))
 
 loop-again-2 : tie.Need-loop-again-2 Inv-loop μ-loop
-loop-again-2 c = let h = c .before .before .before .before .before .before .before .before .before .before .before .before .before .loop .inv in let t = entry (c .before .before .before .before .before .before .before .before .before .before) in let p = c .before .before .before .before .tally-for .ensures in let yes = not-false _ (c .before .if2 .left) in aligned-topic h t (c .before .before .before .before .before .before .before .if1 .left) p _ (c .before .before .agrees .ensures) yes (merged-topic (h .merged) t (c .before .before .before .before .before .before .before .if1 .left) (p .0) _ refl (count-low h t (c .before .before .before .before .before .before .before .if1 .left) p _ (c .before .before .agrees .ensures) yes))
+loop-again-2 c =
+    let at-agrees = c .before .before in
+    let at-tally-for = at-agrees .before .before in
+    let at-if1 = at-tally-for .before .before .before in
+    let here = at-if1 .before .before .before in
+    let at-loop = here .before .before .before in
+    let h = at-loop .loop .inv in let t = entry here in let p = at-tally-for .tally-for .ensures in let yes = not-false _ (c .before .if2 .left) in aligned-topic h t
+    (at-if1 .if1 .left) p _ (at-agrees .agrees .ensures) yes (merged-topic (h .merged) t (at-if1 .if1 .left) (p .0) _ refl (count-low h t (at-if1 .if1 .left) p _ (at-agrees .agrees .ensures) yes))
 
 enum-told : tie.Need-enum-told Inv-loop μ-loop
 enum-told c = search needs
 
 returns-2 : tie.Need-returns-2 Inv-loop μ-loop
-returns-2 c = not-torn _ (bytes-in (c .before .before)) _ (c .before .before .before .loop .inv .merged .entries) (c .before .before .next .ensures) (c .enum-told .given .1)
+returns-2 c =
+    let at-next = c .before .before in
+    not-torn _ (bytes-in at-next) _ (c .before .before .before .loop .inv .merged .entries) (at-next .next .ensures) (c .enum-told .given .1)
 
 enum-told-2 : tie.Need-enum-told-2 Inv-loop μ-loop
 enum-told-2 c = search needs
 
 returns-3 : tie.Need-returns-3 Inv-loop μ-loop
-returns-3 c = let h = c .before .before .before .loop .inv in aligned-end h (ended _ (bytes-in (c .before .before)) _ (h .merged .entries) (c .before .before .next .ensures) (c .enum-told2 .given .1))
+returns-3 c =
+    let at-next = c .before .before in
+    let h = c .before .before .before .loop .inv in aligned-end h (ended _ (bytes-in at-next) _ (h .merged .entries) (at-next .next .ensures) (c .enum-told2 .given .1))
 
 pub is-settled-spec : {M : Type 1} → statement M
 is-settled-spec =

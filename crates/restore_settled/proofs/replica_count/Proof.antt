@@ -17,7 +17,10 @@ sub-result : tie.Need-sub-result
 sub-result c = search needs
 
 returns : tie.Need-returns
-returns c = let v = c .before .value-at .ensures in let n = part-length _ _ _ _ (v .1) (v .2) (v .0) in (let e : c .before .value-at .result .end - c .before .value-at .result .start ≡ length (value 4 (runIn (c .before .before .before .args .e .now))) = omega arith in ap (λ x. x / 8) e)
+returns c =
+    let start = c .before .before .before in
+    let v = c .before .value-at .ensures in let n = part-length _ _ _ _ (v .1) (v .2) (v .0) in
+    (let e : c .before .value-at .result .end - c .before .value-at .result .start ≡ length (value 4 (runIn (start .args .e .now))) = omega arith in ap (λ x. x / 8) e)
 
 pub replica-count-spec : {M : Type 1} → statement M
 replica-count-spec = tie.close (tie.spec value-at-requires sub-result returns)

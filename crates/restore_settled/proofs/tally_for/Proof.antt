@@ -26,7 +26,10 @@ tally-of-requires : tie.Need-tally-of-requires
 tally-of-requires c κs = search needs
 
 returns : tie.Need-returns
-returns c = let v = c .before .before .before .value-at .ensures in let e = lent-slice _ _ _ (v .1) ∙ v .0 in (counted-as e (c .tally-of .ensures .0), factored-as e (c .before .number-at .ensures) (c .tally-of .ensures .1))
+returns c =
+    let at-value-at = c .before .before .before in
+    let v = at-value-at .value-at .ensures in let e = lent-slice _ _ _ (v .1) ∙ v .0 in
+    (counted-as e (c .tally-of .ensures .0), factored-as e (c .before .number-at .ensures) (c .tally-of .ensures .1))
 
 pub tally-for-spec : {M : Type 1} → statement M
 tally-for-spec =

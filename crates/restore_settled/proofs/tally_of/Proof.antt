@@ -19,7 +19,9 @@ abbrev μ-loop : tie.MeasureT-loop
 μ-loop s name given count₀ factor₀ c₀ count factor c = length s - c .at
 
 loop-holds : tie.Need-loop-holds Inv-loop μ-loop
-loop-holds c = (passed-start _ _ (c .before .before .pre .0) (c .before .before .pre .1), folded-start _ _ _)
+loop-holds c =
+    let start = c .before .before in
+    (passed-start _ _ (start .pre .0) (start .pre .1), folded-start _ _ _)
 
 next-requires : tie.Need-next-requires Inv-loop μ-loop
 next-requires c κs = search needs
@@ -34,7 +36,9 @@ bytes-in c = known-bytes (c .before .before .before .before .args .s .now) (λ i
 -- the entry that a step found
 entry : (c : tie.After-start Inv-loop μ-loop)
     → Stands (c .before .before .before .before .before .before .args .s .now) (c .before .before .before .loop .c .at) (c .start .given .0 .0) (c .start .given .0 .1 .0) (c .start .given .0 .1 .1 .0)
-entry c = stands _ (bytes-in (c .before .before)) _ (c .before .before .before .loop .inv .0 .entries) (c .before .before .next .ensures) (c .start .given .1)
+entry c =
+    let at-next = c .before .before in
+    stands _ (bytes-in at-next) _ (c .before .before .before .loop .inv .0 .entries) (at-next .next .ensures) (c .start .given .1)
 
 sub-beside : tie.Need-sub-beside Inv-loop μ-loop
 sub-beside c = omega (arith, bounds (entry (c .before)))
@@ -55,13 +59,21 @@ loop-less : tie.Need-loop-less Inv-loop μ-loop
 loop-less c = turn-falls _ _ _ _ _ (entry (c .before .before .before .before .before))
 
 loop-again : tie.Need-loop-again Inv-loop μ-loop
-loop-again c = (passed-less (c .before .before .before .before .before .before .before .before .loop .inv .0) (entry (c .before .before .before .before .before)) (c .before .before .beside .result) (c .before .before .beside .ensures) (c .enum-told .given .1), folded-less (c .before .before .before .before .before .before .before .before .loop .inv .1) (entry (c .before .before .before .before .before)) (c .before .before .beside .result) (c .before .before .beside .ensures) (c .enum-told .given .1))
+loop-again c =
+    let at-beside = c .before .before in
+    let here = at-beside .before .before .before in
+    let at-loop = here .before .before .before in (
+      passed-less (at-loop .loop .inv .0) (entry here) (at-beside .beside .result) (at-beside .beside .ensures) (c .enum-told .given .1),
+      folded-less (at-loop .loop .inv .1) (entry here) (at-beside .beside .result) (at-beside .beside .ensures) (c .enum-told .given .1),
+    )
 
 enum-told-2 : tie.Need-enum-told-2 Inv-loop μ-loop
 enum-told-2 c = search needs
 
 add-count : tie.Need-add-count Inv-loop μ-loop
-add-count c = omega (arith, c .before .before .before .before .before .before .before .before .loop .inv .0 .low, c .before .before .before .before .before .before .before .before .loop .inv .0 .most)
+add-count c =
+    let at-loop = c .before .before .before .before .before .before .before .before in
+    omega (arith, at-loop .loop .inv .0 .low, at-loop .loop .inv .0 .most)
 
 sub-replica-count : tie.Need-sub-replica-count Inv-loop μ-loop
 sub-replica-count c = omega (arith, bounds (entry (c .before .before .before .before .before)))
@@ -79,25 +91,44 @@ loop-less-2 : tie.Need-loop-less-2 Inv-loop μ-loop
 loop-less-2 c = turn-falls _ _ _ _ _ (entry (c .before .before .before .before .before .before .before))
 
 loop-again-2 : tie.Need-loop-again-2 Inv-loop μ-loop
-loop-again-2 c = (passed-equal (c .before .before .before .before .before .before .before .before .before .before .loop .inv .0) (entry (c .before .before .before .before .before .before .before)) (c .before .before .before .before .beside .result) (c .before .before .before .before .beside .ensures) (c .before .before .enum-told2 .given .1), folded-equal (c .before .before .before .before .before .before .before .before .before .before .loop .inv .1) (entry (c .before .before .before .before .before .before .before)) (c .before .before .before .before .beside .result) (c .before .before .before .before .beside .ensures) (c .before .before .enum-told2 .given .1) _ (c .replica-count .ensures))
+loop-again-2 c =
+    let at-enum-told2 = c .before .before in
+    let at-beside = at-enum-told2 .before .before in
+    let here = at-beside .before .before .before in
+    let at-loop = here .before .before .before in (
+      passed-equal (at-loop .loop .inv .0) (entry here) (at-beside .beside .result) (at-beside .beside .ensures) (at-enum-told2 .enum-told2 .given .1),
+      folded-equal (at-loop .loop .inv .1) (entry here) (at-beside .beside .result) (at-beside .beside .ensures) (at-enum-told2 .enum-told2 .given .1) _ (c .replica-count .ensures),
+    )
 
 enum-told-3 : tie.Need-enum-told-3 Inv-loop μ-loop
 enum-told-3 c = search needs
 
 returns : tie.Need-returns Inv-loop μ-loop
-returns c = (passed-greater (c .before .before .before .before .before .before .before .before .loop .inv .0) (entry (c .before .before .before .before .before)) (c .before .before .beside .result) (c .before .before .beside .ensures) (c .enum-told3 .given .1), folded-greater (c .before .before .before .before .before .before .before .before .loop .inv .1) (entry (c .before .before .before .before .before)) (c .before .before .beside .result) (c .before .before .beside .ensures) (c .enum-told3 .given .1) (c .before .before .before .before .before .before .before .before .loop .inv .0 .ascends))
+returns c =
+    let at-beside = c .before .before in
+    let here = at-beside .before .before .before in
+    let at-loop = here .before .before .before in (
+      passed-greater (at-loop .loop .inv .0) (entry here) (at-beside .beside .result) (at-beside .beside .ensures) (c .enum-told3 .given .1),
+      folded-greater (at-loop .loop .inv .1) (entry here) (at-beside .beside .result) (at-beside .beside .ensures) (c .enum-told3 .given .1) (at-loop .loop .inv .0 .ascends),
+    )
 
 enum-told-4 : tie.Need-enum-told-4 Inv-loop μ-loop
 enum-told-4 c = search needs
 
 returns-2 : tie.Need-returns-2 Inv-loop μ-loop
-returns-2 c = not-torn _ (bytes-in (c .before .before)) _ (c .before .before .before .loop .inv .0 .entries) (c .before .before .next .ensures) (c .enum-told4 .given .1)
+returns-2 c =
+    let at-next = c .before .before in
+    not-torn _ (bytes-in at-next) _ (c .before .before .before .loop .inv .0 .entries) (at-next .next .ensures) (c .enum-told4 .given .1)
 
 enum-told-5 : tie.Need-enum-told-5 Inv-loop μ-loop
 enum-told-5 c = search needs
 
 returns-3 : tie.Need-returns-3 Inv-loop μ-loop
-returns-3 c = let h = c .before .before .before .loop .inv in let past = ended _ (bytes-in (c .before .before)) _ (h .0 .entries) (c .before .before .next .ensures) (c .enum-told5 .given .1) in (passed-end (h .0) past, folded-end (h .1) (h .0 .most) past)
+returns-3 c =
+    let at-next = c .before .before in
+    let at-loop = at-next .before in
+    let h = at-loop .loop .inv in let past = ended _ (bytes-in at-next) _ (h .0 .entries) (at-next .next .ensures) (c .enum-told5 .given .1) in
+    (passed-end (h .0) past, folded-end (h .1) (h .0 .most) past)
 
 pub tally-of-spec : {M : Type 1} → statement M
 tally-of-spec =

@@ -78,8 +78,22 @@ faults-claims t =
     (begin-reads.Asked, begin-reads.Learnt, next-reads.Asked, next-reads.Learnt, field-fault-below t, field-fault.Post, walk-past-reads.Asked, walk-past-reads.Learnt, end-fault-reads.Asked, end-fault-reads.Learnt)
 
 abbrev field-claims : ℕ → field-fault-lts.Claims
-field-claims t =
-    (tag-fault-reads.Asked, tag-fault-reads.Learnt, row-at-reads.Asked, row-at-reads.Learnt, prior-of-reads.Asked, prior-of-reads.Learnt, value-fault-below t, value-fault.Post, many-in-reads.Asked, many-in-reads.Learnt, count-of-reads.Asked, count-of-reads.Learnt, count-fault-reads.Asked, count-fault-reads.Learnt)
+field-claims t = (
+  tag-fault-reads.Asked,
+  tag-fault-reads.Learnt,
+  row-at-reads.Asked,
+  row-at-reads.Learnt,
+  prior-of-reads.Asked,
+  prior-of-reads.Learnt,
+  value-fault-below t,
+  value-fault.Post,
+  many-in-reads.Asked,
+  many-in-reads.Learnt,
+  count-of-reads.Asked,
+  count-of-reads.Learnt,
+  count-fault-reads.Asked,
+  count-fault-reads.Learnt,
+)
 
 abbrev value-claims : ℕ → value-fault-lts.Claims
 value-claims t =
@@ -99,8 +113,9 @@ faults-begin-requires t c κs = tt
 
 faults-loop-holds : (t : ℕ) → faults-lts.Need-loop-holds (faults-claims t) (faults-at t) faults.Post faults-Inv-loop faults-μ-loop
 faults-loop-holds t c =
-    let p = c .before .before .before .pre .1 in
-    let s = c .before .before .before .args .s .now in
+    let start = c .before .before .before in
+    let p = start .pre .1 in
+    let s = start .args .s .now in
     let e = c .begin .ensures in
     (p .2 .0, p .2 .1, begun-in s e, omega (arith, begun-count s e), on-begun _ _ s e _)
 
@@ -132,14 +147,18 @@ faults-loop-less t c = let m = moved (c .before .before .before .before .tag .gi
 
 faults-loop-again : (t : ℕ) → faults-lts.Need-loop-again (faults-claims t) (faults-at t) faults.Post faults-Inv-loop faults-μ-loop
 faults-loop-again t c =
-    let m = moved (c .before .before .before .before .tag .given .1) (c .before .before .before .before .before .before .next .ensures .1) in
+    let at-tag = c .before .before .before .before in
+    let at-next = at-tag .before .before in
+    let at-loop = at-next .before in
+    let start = at-loop .before .before .before .before in
+    let m = moved (at-tag .tag .given .1) (at-next .next .ensures .1) in
     let q = passed-count _ _ _ _ (c .walk-past .ensures .0) in (
       omega arith,
       omega arith,
       c .walk-past .ensures .1,
       omega arith,
-      on-field _ (c .before .before .before .before .before .before .before .before .before .before .before .pre .1 .1) _ _ _ (c .before .before .field-fault .ensures) (c .before .if1 .left) (took _ (c .before .before .before .before .before .before .next .ensures .0) (c .before .before .before .before .tag .given .1))
-          (c .walk-past .ensures .0) ∙ c .before .before .before .before .before .before .before .loop .inv .4,
+      on-field _ (start .pre .1 .1) _ _ _ (c .before .before .field-fault .ensures) (c .before .if1 .left) (took _ (at-next .next .ensures .0) (at-tag .tag .given .1))
+          (c .walk-past .ensures .0) ∙ at-loop .loop .inv .4,
     )
 
 faults-enum-told : (t : ℕ) → faults-lts.Need-enum-told (faults-claims t) (faults-at t) faults.Post faults-Inv-loop faults-μ-loop
@@ -160,7 +179,9 @@ faults-returns-3 : (t : ℕ) → faults-lts.Need-returns-3 (faults-claims t) (fa
 faults-returns-3 t c = c .end-fault .ensures ∙ on-done _ _ _ (ended _ (c .before .before .before .next .ensures .0) (c .before .enum-told2 .given .1)) ∙ c .before .before .before .before .loop .inv .4
 
 field-fault-tag-fault-requires : (t : ℕ) → field-fault-lts.Need-tag-fault-requires (field-claims t) (field-fault-at t) field-fault.Post
-field-fault-tag-fault-requires t c κs = (c .before .before .pre .1 .0, c .before .before .pre .1 .1)
+field-fault-tag-fault-requires t c κs =
+    let start = c .before .before in
+    (start .pre .1 .0, start .pre .1 .1)
 
 field-fault-returns : (t : ℕ) → field-fault-lts.Need-returns (field-claims t) (field-fault-at t) field-fault.Post
 field-fault-returns t c = field-tag _ _ _ _ _ (c .before .tag-fault .ensures) (c .if1 .taken)
@@ -181,8 +202,9 @@ field-fault-prior-of-requires t c κs = tt
 
 field-fault-value-fault-requires : (t : ℕ) → field-fault-lts.Need-value-fault-requires (field-claims t) (field-fault-at t) field-fault.Post
 field-fault-value-fault-requires t c κs =
-    let p = c .before .before .before .before .before .before .pre in
-    let a = c .before .before .before .before .before .before .args in (
+    let start = c .before .before .before .before .before .before in
+    let p = start .pre in
+    let a = start .args in (
       omega arith,
       (
         p .1 .0,
@@ -196,10 +218,15 @@ field-fault-value-fault-requires t c κs =
 
 field-fault-returns-2 : (t : ℕ) → field-fault-lts.Need-returns-2 (field-claims t) (field-fault-at t) field-fault.Post
 field-fault-returns-2 t c =
-    let a = c .before .before .before .before .before .before .before .before .args in
-    let k = prior-key (a .w) (a .tag) (a .s .now) (c .before .before .prior-of .result) (c .before .before .prior-of .ensures) in
-    field-value _ _ _ _ _ (c .before .before .before .before .before .tag-fault .ensures) (c .before .before .before .before .if1 .left) (row-there (c .before .before .before .before .before .before .before .before .pre .1 .1) _ _ (c .before .before .before .before .before .tag-fault .ensures) (c .before .before .before .before .if1 .left))
-    (c .before .before .before .row-at .ensures) k (c .before .value-fault .ensures) (c .if2 .taken)
+    let at-prior-of = c .before .before in
+    let at-row-at = at-prior-of .before in
+    let at-if1 = at-row-at .before in
+    let at-tag-fault = at-if1 .before in
+    let start = at-tag-fault .before .before .before in
+    let a = start .args in
+    let k = prior-key (a .w) (a .tag) (a .s .now) (at-prior-of .prior-of .result) (at-prior-of .prior-of .ensures) in
+    field-value _ _ _ _ _ (at-tag-fault .tag-fault .ensures) (at-if1 .if1 .left) (row-there (start .pre .1 .1) _ _ (at-tag-fault .tag-fault .ensures) (at-if1 .if1 .left))
+    (at-row-at .row-at .ensures) k (c .before .value-fault .ensures) (c .if2 .taken)
 
 field-fault-many-in-requires : (t : ℕ) → field-fault-lts.Need-many-in-requires (field-claims t) (field-fault-at t) field-fault.Post
 field-fault-many-in-requires t c κs = tt
@@ -212,10 +239,17 @@ field-fault-count-fault-requires t c κs = tt
 
 field-fault-returns-3 : (t : ℕ) → field-fault-lts.Need-returns-3 (field-claims t) (field-fault-at t) field-fault.Post
 field-fault-returns-3 t c =
-    let a = c .before .before .before .before .before .before .before .before .before .before .before .args in
-    let k = prior-key (a .w) (a .tag) (a .s .now) (c .before .before .before .before .before .prior-of .result) (c .before .before .before .before .before .prior-of .ensures) in
-    field-count _ _ _ _ _ (c .before .before .before .before .before .before .before .before .tag-fault .ensures) (c .before .before .before .before .before .before .before .if1 .left) (row-there (c .before .before .before .before .before .before .before .before .before .before .before .pre .1 .1) _ _ (c .before .before .before .before .before .before .before .before .tag-fault .ensures) (c .before .before .before .before .before .before .before .if1 .left))
-    (c .before .before .before .before .before .before .row-at .ensures) k (c .before .before .before .before .value-fault .ensures) (c .before .before .before .if2 .left) (c .before .before .many-in .ensures) (c .before .count-of .ensures) (c .count-fault .ensures)
+    let at-if2 = c .before .before .before in
+    let at-value-fault = at-if2 .before in
+    let at-prior-of = at-value-fault .before in
+    let at-row-at = at-prior-of .before in
+    let at-if1 = at-row-at .before in
+    let at-tag-fault = at-if1 .before in
+    let start = at-tag-fault .before .before .before in
+    let a = start .args in
+    let k = prior-key (a .w) (a .tag) (a .s .now) (at-prior-of .prior-of .result) (at-prior-of .prior-of .ensures) in
+    field-count _ _ _ _ _ (at-tag-fault .tag-fault .ensures) (at-if1 .if1 .left) (row-there (start .pre .1 .1) _ _ (at-tag-fault .tag-fault .ensures) (at-if1 .if1 .left))
+    (at-row-at .row-at .ensures) k (at-value-fault .value-fault .ensures) (at-if2 .if2 .left) (c .before .before .many-in .ensures) (c .before .count-of .ensures) (c .count-fault .ensures)
 
 value-fault-form-in-requires : (t : ℕ) → value-fault-lts.Need-form-in-requires (value-claims t) (value-fault-at t) value-fault.Post
 value-fault-form-in-requires t c κs = tt
@@ -239,7 +273,9 @@ value-fault-leaf-fault-requires-2 t c κs =
 
 value-fault-returns-2 : (t : ℕ) → value-fault-lts.Need-returns-2 (value-claims t) (value-fault-at t) value-fault.Post
 value-fault-returns-2 t c =
-    value-leaf _ _ _ _ (c .before .before .before .before .form-in .ensures) (c .before .before .before .size-in .ensures) (c .before .before .if1 .left) (c .before .if2 .taken) (c .leaf-fault2 .ensures)
+    let at-size-in = c .before .before .before in
+    let at-form-in = at-size-in .before in
+    value-leaf _ _ _ _ (at-form-in .form-in .ensures) (at-size-in .size-in .ensures) (c .before .before .if1 .left) (c .before .if2 .taken) (c .leaf-fault2 .ensures)
 
 value-fault-faults-requires : (t : ℕ) → value-fault-lts.Need-faults-requires (value-claims t) (value-fault-at t) value-fault.Post
 value-fault-faults-requires t c κs =
@@ -250,8 +286,11 @@ value-fault-faults-requires t c κs =
 
 value-fault-returns-3 : (t : ℕ) → value-fault-lts.Need-returns-3 (value-claims t) (value-fault-at t) value-fault.Post
 value-fault-returns-3 t c =
-    let p = c .before .before .before .before .before .before .before .pre .1 in
-    value-run _ _ _ _ (c .before .before .before .before .form-in .ensures) (c .before .before .before .size-in .ensures) (p .1) (c .before .before .if1 .left) (c .before .if2 .left) (c .faults .ensures)
+    let at-size-in = c .before .before .before in
+    let at-form-in = at-size-in .before in
+    let start = at-form-in .before .before .before in
+    let p = start .pre .1 in
+    value-run _ _ _ _ (at-form-in .form-in .ensures) (at-size-in .size-in .ensures) (p .1) (c .before .before .if1 .left) (c .before .if2 .left) (c .faults .ensures)
 
 pub +faults+field-fault+value-fault-spec : {M : Type 1} → statement M
 +faults+field-fault+value-fault-spec =

@@ -27,18 +27,21 @@ enum-told-3 c = search needs
 
 returns-2 : tie.Need-returns-2
 returns-2 c =
-    let b = c .before .before .before .before .before .before in
-    above-some (b .before .args .s .now) (b .before .args .prior) (b .before .args .v .now) (b .before .pre) (c .before .before .before .before .if1 .left) (c .before .before .compare .ensures) (c .enum-told .given .1)
+    let at-if1 = c .before .before .before .before in
+    let b = at-if1 .before .before in
+    above-some (b .before .args .s .now) (b .before .args .prior) (b .before .args .v .now) (b .before .pre) (at-if1 .if1 .left) (c .before .before .compare .ensures) (c .enum-told .given .1)
 
 returns-3 : tie.Need-returns-3
 returns-3 c =
-    let b = c .before .before .before .before .before .before in
-    above-some (b .before .args .s .now) (b .before .args .prior) (b .before .args .v .now) (b .before .pre) (c .before .before .before .before .if1 .left) (c .before .before .compare .ensures) (c .enum-told2 .given .1)
+    let at-if1 = c .before .before .before .before in
+    let b = at-if1 .before .before in
+    above-some (b .before .args .s .now) (b .before .args .prior) (b .before .args .v .now) (b .before .pre) (at-if1 .if1 .left) (c .before .before .compare .ensures) (c .enum-told2 .given .1)
 
 returns-4 : tie.Need-returns-4
 returns-4 c =
-    let b = c .before .before .before .before .before .before in
-    above-some (b .before .args .s .now) (b .before .args .prior) (b .before .args .v .now) (b .before .pre) (c .before .before .before .before .if1 .left) (c .before .before .compare .ensures) (c .enum-told3 .given .1)
+    let at-if1 = c .before .before .before .before in
+    let b = at-if1 .before .before in
+    above-some (b .before .args .s .now) (b .before .args .prior) (b .before .args .v .now) (b .before .pre) (at-if1 .if1 .left) (c .before .before .compare .ensures) (c .enum-told3 .given .1)
 
 pub ascends-spec : {M : Type 1} → statement M
 ascends-spec =

@@ -56,9 +56,12 @@ sub-if2 c = omega arith
 
 returns-2 : tie.Need-returns-2 Inv-loop μ-loop
 returns-2 c =
-    let a = c .before .before .before .before .before .before .before .before .before .before .args in
-    let l = c .before .before .before .before .loop in
-    on-torn _ _ _ (value-cut (a .tags .now) (a .lengths .now) (a .values .now) (l .i) (l .start) (c .before .before .before .loop-test .taken) (c .before .before .if1 .left) _ refl (c .if2 .taken)) ∙ l .inv .5
+    let at-loop-test = c .before .before .before in
+    let at-loop = at-loop-test .before in
+    let start = at-loop .before .before .before .before .before .before in
+    let a = start .args in
+    let l = at-loop .loop in
+    on-torn _ _ _ (value-cut (a .tags .now) (a .lengths .now) (a .values .now) (l .i) (l .start) (at-loop-test .loop-test .taken) (c .before .before .if1 .left) _ refl (c .if2 .taken)) ∙ l .inv .5
 
 shared-slice-read-size : tie.Need-shared-slice-read-size Inv-loop μ-loop
 shared-slice-read-size c = omega arith
@@ -70,17 +73,28 @@ no-key-requires : tie.Need-no-key-requires Inv-loop μ-loop
 no-key-requires c κs = tt
 
 field-fault-requires : tie.Need-field-fault-requires Inv-loop μ-loop
-field-fault-requires c κs = (c .before .before .before .before .before .before .before .before .before .before .before .before .before .pre .0, c .before .before .before .before .before .before .before .before .before .before .before .before .before .pre .1, omega arith, c .before .before .before .before .before .before .before .loop .inv .3, rw (c .no-key .ensures) (omega arith))
+field-fault-requires c κs =
+    let at-loop = c .before .before .before .before .before .before .before in
+    let start = at-loop .before .before .before .before .before .before in
+    (start .pre .0, start .pre .1, omega arith, at-loop .loop .inv .3, rw (c .no-key .ensures) (omega arith))
 
 returns-3 : tie.Need-returns-3 Inv-loop μ-loop
 returns-3 c =
-    let a = c .before .before .before .before .before .before .before .before .before .before .before .before .before .before .before .args in
-    let l = c .before .before .before .before .before .before .before .before .before .loop in
-    on-fault _ _ _ (next-field (a .tags .now) (a .lengths .now) (a .values .now) (l .i) (l .start) (c .before .before .before .before .before .before .before .before .loop-test .taken) (c .before .before .before .before .before .before .before .if1 .left) _ refl
-    _ (c .before .before .before .size .ensures .0) (l .inv .2) (c .before .before .before .before .before .if2 .left)) (c .before .field-fault .ensures) (c .if3 .taken) ∙ l .inv .5
+    let at-size = c .before .before .before in
+    let at-if2 = at-size .before .before in
+    let at-if1 = at-if2 .before .before in
+    let at-loop-test = at-if1 .before in
+    let at-loop = at-loop-test .before in
+    let start = at-loop .before .before .before .before .before .before in
+    let a = start .args in
+    let l = at-loop .loop in
+    on-fault _ _ _ (next-field (a .tags .now) (a .lengths .now) (a .values .now) (l .i) (l .start) (at-loop-test .loop-test .taken) (at-if1 .if1 .left) _ refl
+    _ (at-size .size .ensures .0) (l .inv .2) (at-if2 .if2 .left)) (c .before .field-fault .ensures) (c .if3 .taken) ∙ l .inv .5
 
 walk-past-requires : tie.Need-walk-past-requires Inv-loop μ-loop
-walk-past-requires c κs = (c .before .before .before .before .before .before .before .before .before .before .before .before .before .before .before .pre .0, field-fits _ (c .before .before .before .before .before .before .before .before .before .before .before .before .before .before .before .pre .1) _ _ _ (c .before .field-fault .ensures) (c .if3 .left), omega arith, omega arith)
+walk-past-requires c κs =
+    let start = c .before .before .before .before .before .before .before .before .before .before .before .before .before .before .before in
+    (start .pre .0, field-fits _ (start .pre .1) _ _ _ (c .before .field-fault .ensures) (c .if3 .left), omega arith, omega arith)
 
 add-start : tie.Need-add-start Inv-loop μ-loop
 add-start c = omega (arith, c .before .before .before .before .before .before .before .before .before .before .before .before .before .before .before .before .good)
@@ -93,17 +107,23 @@ loop-less c = omega arith
 
 loop-again : tie.Need-loop-again Inv-loop μ-loop
 loop-again c =
-    let a = c .before .before .before .before .before .before .before .before .before .before .before .before .before .before .before .before .args in
-    let l = c .before .before .before .before .before .before .before .before .before .before .loop in
+    let at-size = c .before .before .before .before in
+    let at-if2 = at-size .before .before in
+    let at-if1 = at-if2 .before .before in
+    let at-loop-test = at-if1 .before in
+    let at-loop = at-loop-test .before in
+    let start = at-loop .before .before .before .before .before .before in
+    let a = start .args in
+    let l = at-loop .loop in
     let q = passed-count _ _ _ _ (c .walk-past .ensures .0) in (
       omega arith,
       omega arith,
       omega arith,
       c .walk-past .ensures .1,
       omega arith,
-      on-field _ (c .before .before .before .before .before .before .before .before .before .before .before .before .before .before .before .before .pre .1) _ _ _ (c .before .before .field-fault .ensures) (c .before .if3 .left)
-          (next-field (a .tags .now) (a .lengths .now) (a .values .now) (l .i) (l .start) (c .before .before .before .before .before .before .before .before .before .loop-test .taken) (c .before .before .before .before .before .before .before .before .if1 .left) _ refl
-          _ (c .before .before .before .before .size .ensures .0) (l .inv .2) (c .before .before .before .before .before .before .if2 .left)) (c .walk-past .ensures .0) ∙ l .inv .5,
+      on-field _ (start .pre .1) _ _ _ (c .before .before .field-fault .ensures) (c .before .if3 .left)
+          (next-field (a .tags .now) (a .lengths .now) (a .values .now) (l .i) (l .start) (at-loop-test .loop-test .taken) (at-if1 .if1 .left) _ refl
+          _ (at-size .size .ensures .0) (l .inv .2) (at-if2 .if2 .left)) (c .walk-past .ensures .0) ∙ l .inv .5,
     )
 
 returns-4 : tie.Need-returns-4 Inv-loop μ-loop
@@ -123,10 +143,13 @@ end-fault-requires c κs = c .before .before .before .before .before .before .be
 
 returns-6 : tie.Need-returns-6 Inv-loop μ-loop
 returns-6 c =
-    let a = c .before .before .before .before .before .before .before .before .before .before .args in
-    let l = c .before .before .before .before .loop in
+    let at-loop-test = c .before .before .before in
+    let at-loop = at-loop-test .before in
+    let start = at-loop .before .before .before .before .before .before in
+    let a = start .args in
+    let l = at-loop .loop in
     c .end-fault .ensures
-    ∙ on-done _ _ _ (nothing-left (a .tags .now) (a .lengths .now) (a .values .now) (l .i) (l .start) (c .before .before .before .loop-test .left) (c .before .before .if4 .left) (c .before .if5 .left))
+    ∙ on-done _ _ _ (nothing-left (a .tags .now) (a .lengths .now) (a .values .now) (l .i) (l .start) (at-loop-test .loop-test .left) (c .before .before .if4 .left) (c .before .if5 .left))
     ∙ l .inv .5
 
 pub given-faults-spec : {M : Type 1} → statement M

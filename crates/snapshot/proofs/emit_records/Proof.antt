@@ -24,7 +24,10 @@ part-returned-length-end : tie.Need-part-returned-length-end
 part-returned-length-end c = search needs
 
 returned-length-requires : tie.Need-returned-length-requires
-returned-length-requires c κs = (lent-entries (c .before .before .before .before .before .before .args .image .now) (c .before .before .before .reals-end .ensures), lent-kept (c .before .before .before .before .before .before .args .image .now) (c .before .before .before .reals-end .ensures))
+returned-length-requires c κs =
+    let at-reals-end = c .before .before .before in
+    let start = at-reals-end .before .before .before in
+    (lent-entries (start .args .image .now) (at-reals-end .reals-end .ensures), lent-kept (start .args .image .now) (at-reals-end .reals-end .ensures))
 
 epoch-length-requires : tie.Need-epoch-length-requires
 epoch-length-requires c κs = search needs
@@ -39,7 +42,14 @@ add-n-2 : tie.Need-add-n-2
 add-n-2 c = search needs
 
 returns : tie.Need-returns
-returns c = too-short (c .before .before .before .before .before .before .before .before .before .before .args .image .now) (c .before .before .before .before .before .before .before .reals-end .ensures) (c .before .before .before .before .before .before .epoch-in .ensures) (c .before .before .before .before .before .kraft-in .ensures) (c .before .before .before .before .before .before .before .before .before .before .args .out .now) (c .before .before .before .returned-length .ensures .0) (c .before .before .epoch-length .ensures .0) (c .before .kraft-length .ensures .0) (c .if1 .taken)
+returns c =
+    let at-returned-length = c .before .before .before in
+    let at-kraft-in = at-returned-length .before .before in
+    let at-epoch-in = at-kraft-in .before in
+    let at-reals-end = at-epoch-in .before in
+    let start = at-reals-end .before .before .before in
+    too-short (start .args .image .now) (at-reals-end .reals-end .ensures) (at-epoch-in .epoch-in .ensures) (at-kraft-in .kraft-in .ensures) (start .args .out .now)
+    (at-returned-length .returned-length .ensures .0) (c .before .before .epoch-length .ensures .0) (c .before .kraft-length .ensures .0) (c .if1 .taken)
 
 sub-put-entries : tie.Need-sub-put-entries
 sub-put-entries c = search needs
@@ -51,7 +61,19 @@ part-put-entries-end : tie.Need-part-put-entries-end
 part-put-entries-end c = search needs
 
 put-entries-requires : tie.Need-put-entries-requires
-put-entries-requires c κs = (lent-entries (c .before .before .before .before .before .before .before .before .before .before .before .before .args .image .now) (c .before .before .before .before .before .before .before .before .before .reals-end .ensures), lent-kept (c .before .before .before .before .before .before .before .before .before .before .before .before .args .image .now) (c .before .before .before .before .before .before .before .before .before .reals-end .ensures), entries-fit (c .before .before .before .before .before .before .before .before .before .before .before .before .args .image .now) (c .before .before .before .before .before .before .before .before .before .reals-end .ensures) (c .before .before .before .before .before .before .before .before .epoch-in .ensures) (c .before .before .before .before .before .before .before .kraft-in .ensures) (c .before .before .before .before .before .before .before .before .before .before .before .before .args .out .now) (c .before .before .before .before .before .returned-length .ensures .0) (c .before .before .before .before .epoch-length .ensures .0) (c .before .before .before .kraft-length .ensures .0) (c .before .before .if1 .left))
+put-entries-requires c κs =
+    let at-kraft-length = c .before .before .before in
+    let at-epoch-length = at-kraft-length .before in
+    let at-returned-length = at-epoch-length .before in
+    let at-kraft-in = at-returned-length .before .before in
+    let at-epoch-in = at-kraft-in .before in
+    let at-reals-end = at-epoch-in .before in
+    let start = at-reals-end .before .before .before in (
+      lent-entries (start .args .image .now) (at-reals-end .reals-end .ensures),
+      lent-kept (start .args .image .now) (at-reals-end .reals-end .ensures),
+      entries-fit (start .args .image .now) (at-reals-end .reals-end .ensures) (at-epoch-in .epoch-in .ensures) (at-kraft-in .kraft-in .ensures) (start .args .out .now)
+          (at-returned-length .returned-length .ensures .0) (at-epoch-length .epoch-length .ensures .0) (at-kraft-length .kraft-length .ensures .0) (c .before .before .if1 .left),
+    )
 
 put-epoch-requires : tie.Need-put-epoch-requires
 put-epoch-requires c κs = search needs
@@ -63,7 +85,20 @@ same-length : tie.Need-same-length
 same-length c = search needs
 
 returns-2 : tie.Need-returns-2
-returns-2 c = emitted (c .before .before .before .before .before .before .before .before .before .before .before .before .before .before .before .before .before .before .before .before .before .before .before .args .image .now) (c .before .before .before .before .before .before .before .before .before .before .before .before .before .before .before .before .before .before .before .before .reals-end .ensures) (c .before .before .before .before .before .before .before .before .before .before .before .before .before .before .before .before .before .before .before .epoch-in .ensures) (c .before .before .before .before .before .before .before .before .before .before .before .before .before .before .before .before .before .before .kraft-in .ensures) (c .before .before .before .before .before .before .before .before .before .before .before .before .before .before .before .before .before .before .before .before .before .before .before .args .out .now) (c .before .before .before .before .before .before .before .before .before .before .before .before .before .before .before .before .returned-length .ensures .0) (c .before .before .before .before .before .before .before .before .before .before .before .before .before .before .before .epoch-length .ensures .0) (c .before .before .before .before .before .before .before .before .before .before .before .before .before .before .kraft-length .ensures .0) (c .before .before .before .before .before .before .before .before .before .before .before .before .before .if1 .left) (c .before .before .before .before .before .before .before .before .before .before .put-entries .ensures) (c .before .before .before .before .before .before .put-epoch .ensures) (c .before .before .put-kraft .ensures)
+returns-2 c =
+    let at-put-epoch = c .before .before .before .before .before .before in
+    let at-put-entries = at-put-epoch .before .before .before .before in
+    let at-if1 = at-put-entries .before .before .before in
+    let at-kraft-length = at-if1 .before in
+    let at-epoch-length = at-kraft-length .before in
+    let at-returned-length = at-epoch-length .before in
+    let at-kraft-in = at-returned-length .before .before in
+    let at-epoch-in = at-kraft-in .before in
+    let at-reals-end = at-epoch-in .before in
+    let start = at-reals-end .before .before .before in
+    emitted (start .args .image .now) (at-reals-end .reals-end .ensures) (at-epoch-in .epoch-in .ensures) (at-kraft-in .kraft-in .ensures) (start .args .out .now)
+    (at-returned-length .returned-length .ensures .0) (at-epoch-length .epoch-length .ensures .0) (at-kraft-length .kraft-length .ensures .0) (at-if1 .if1 .left)
+    (at-put-entries .put-entries .ensures) (at-put-epoch .put-epoch .ensures) (c .before .before .put-kraft .ensures)
 
 pub emit-records-spec : {M : Type 1} → statement M
 emit-records-spec =

@@ -19,7 +19,9 @@ abbrev μ-loop : tie.MeasureT-loop
 μ-loop out₀ s c₀ n₀ out c n = length s - c .at
 
 loop-holds : tie.Need-loop-holds Inv-loop μ-loop
-loop-holds c = write-start _ _ (c .before .before .pre .0) (c .before .before .pre .1) (c .before .before .pre .2)
+loop-holds c =
+    let start = c .before .before in
+    write-start _ _ (start .pre .0) (start .pre .1) (start .pre .2)
 
 next-requires : tie.Need-next-requires Inv-loop μ-loop
 next-requires c κs = search needs
@@ -49,7 +51,9 @@ part-put-returned-end : tie.Need-part-put-returned-end Inv-loop μ-loop
 part-put-returned-end c = let t = entry (c .before .before) in omega (arith, forward t, inside t)
 
 put-returned-requires : tie.Need-put-returned-requires Inv-loop μ-loop
-put-returned-requires c κs = (here-entire (entry (c .before .before .before)), entry-fits (c .before .before .before .before .before .before .loop .inv) (entry (c .before .before .before)))
+put-returned-requires c κs =
+    let here = c .before .before .before in
+    (here-entire (entry here), entry-fits (c .before .before .before .before .before .before .loop .inv) (entry here))
 
 sub-returned-size : tie.Need-sub-returned-size Inv-loop μ-loop
 sub-returned-size c = forward (entry (c .before .before .before .before .before .before))
@@ -64,13 +68,20 @@ returned-size-requires : tie.Need-returned-size-requires Inv-loop μ-loop
 returned-size-requires c κs = here-entire (entry (c .before .before .before .before .before .before .before))
 
 add-n : tie.Need-add-n Inv-loop μ-loop
-add-n c = omega (arith, entry-fits (c .before .before .before .before .before .before .before .before .before .before .before .loop .inv) (entry (c .before .before .before .before .before .before .before .before)), c .returned-size .ensures, grown-length (c .before .before .before .before .before .before .before .before .before .before .before .loop .inv .grows))
+add-n c =
+    let here = c .before .before .before .before .before .before .before .before in
+    let at-loop = here .before .before .before in
+    omega (arith, entry-fits (at-loop .loop .inv) (entry here), c .returned-size .ensures, grown-length (at-loop .loop .inv .grows))
 
 loop-less : tie.Need-loop-less Inv-loop μ-loop
 loop-less c = turn-falls _ _ _ _ _ (entry (c .before .before .before .before .before .before .before .before))
 
 loop-again : tie.Need-loop-again Inv-loop μ-loop
-loop-again c = write-turn (c .before .before .before .before .before .before .before .before .before .before .before .loop .inv) (entry (c .before .before .before .before .before .before .before .before)) (c .before .before .before .before .put-returned .ensures) (c .returned-size .ensures)
+loop-again c =
+    let at-put-returned = c .before .before .before .before in
+    let here = at-put-returned .before .before .before .before in
+    let at-loop = here .before .before .before in
+    write-turn (at-loop .loop .inv) (entry here) (at-put-returned .put-returned .ensures) (c .returned-size .ensures)
 
 enum-told : tie.Need-enum-told Inv-loop μ-loop
 enum-told c = search needs
@@ -79,7 +90,9 @@ same-length : tie.Need-same-length Inv-loop μ-loop
 same-length c = grown-length (c .before .before .before .loop .inv .grows)
 
 returns : tie.Need-returns Inv-loop μ-loop
-returns c = not-torn _ (bytes-in (c .before .before)) _ (c .before .before .before .loop .inv .ahead .entries) (c .before .before .next .ensures) (c .enum-told .given .1)
+returns c =
+    let at-next = c .before .before in
+    not-torn _ (bytes-in at-next) _ (c .before .before .before .loop .inv .ahead .entries) (at-next .next .ensures) (c .enum-told .given .1)
 
 enum-told-2 : tie.Need-enum-told-2 Inv-loop μ-loop
 enum-told-2 c = search needs
@@ -88,7 +101,10 @@ same-length-2 : tie.Need-same-length-2 Inv-loop μ-loop
 same-length-2 c = grown-length (c .before .before .before .loop .inv .grows)
 
 returns-2 : tie.Need-returns-2 Inv-loop μ-loop
-returns-2 c = wrote (c .before .before .before .loop .inv) (ended _ (bytes-in (c .before .before)) _ (c .before .before .before .loop .inv .ahead .entries) (c .before .before .next .ensures) (c .enum-told2 .given .1))
+returns-2 c =
+    let at-next = c .before .before in
+    let at-loop = at-next .before in
+    wrote (at-loop .loop .inv) (ended _ (bytes-in at-next) _ (at-loop .loop .inv .ahead .entries) (at-next .next .ensures) (c .enum-told2 .given .1))
 
 pub put-entries-spec : {M : Type 1} → statement M
 put-entries-spec =

@@ -33,7 +33,11 @@ same-length : tie.Need-same-length
 same-length c = search needs
 
 returns : tie.Need-returns
-returns c = (refl, number-written (c .before .before .before .before .before .before .before .before .before .before .before .before .before .args .out .now) _ _ _ _ (c .before .before .before .before .before .before .before .before .before .before .before .before .before .pre .1) (c .before .before .before .before .before .before .before .before .before .before .put-head .ensures) (c .before .before .before .before .before .before .put-head2 .ensures) (c .before .before .put .ensures))
+returns c =
+    let at-put-head2 = c .before .before .before .before .before .before in
+    let at-put-head = at-put-head2 .before .before .before .before in
+    let start = at-put-head .before .before .before in
+    (refl, number-written (start .args .out .now) _ _ _ _ (start .pre .1) (at-put-head .put-head .ensures) (at-put-head2 .put-head2 .ensures) (c .before .before .put .ensures))
 
 pub put-number-spec : {M : Type 1} → statement M
 put-number-spec =

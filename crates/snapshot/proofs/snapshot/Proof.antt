@@ -17,7 +17,11 @@ same-length : tie.Need-same-length
 same-length c = search needs
 
 returns-2 : tie.Need-returns-2
-returns-2 c = said _ (c .before .before .before .before .before .before .before .before .args .out .now) (c .before .before .before .before .before .is-image .ensures) (c .before .before .before .before .if1 .left) (c .before .before .emit-records .ensures)
+returns-2 c =
+    let at-if1 = c .before .before .before .before in
+    let at-is-image = at-if1 .before in
+    let start = at-is-image .before .before .before in
+    said _ (start .args .out .now) (at-is-image .is-image .ensures) (at-if1 .if1 .left) (c .before .before .emit-records .ensures)
 
 pub snapshot-spec : {M : Type 1} → statement M
 snapshot-spec =

@@ -29,8 +29,10 @@ wide-requires : tie.Need-wide-requires Inv-loop μ-loop
 wide-requires c κs = tt
 
 add-n : tie.Need-add-n Inv-loop μ-loop
-add-n c = let x : c .wide .result < 256 = omega (arith, c .before .before .before .before .shared-slice-known .given (c .before .before .before .loop .i)) in
-    omega (arith, x, c .before .before .before .loop .inv .1)
+add-n c =
+    let at-loop = c .before .before .before in
+    let x : c .wide .result < 256 = omega (arith, c .before .before .before .before .shared-slice-known .given (at-loop .loop .i)) in
+    omega (arith, x, at-loop .loop .inv .1)
 
 add-i : tie.Need-add-i Inv-loop μ-loop
 add-i c = omega arith

@@ -34,25 +34,44 @@ returns : tie.Need-returns Inv-loop μ-loop
 returns c = (omega (arith, c .start .ensures .3), omega (arith, c .start .ensures .0), omega (arith, c .start .ensures .1))
 
 slice-read-take-byte : tie.Need-slice-read-take-byte Inv-loop μ-loop
-slice-read-take-byte c = omega (arith, c .before .before .before .before .before .refill .ensures .0, c .before .before .before .before .before .refill .ensures .1, c .before .before .if1 .left)
+slice-read-take-byte c =
+    let at-refill = c .before .before .before .before .before in
+    omega (arith, at-refill .refill .ensures .0, at-refill .refill .ensures .1, c .before .before .if1 .left)
 
 take-byte-requires : tie.Need-take-byte-requires Inv-loop μ-loop
 take-byte-requires c κs = c .before .before .before .before .before .before .before .before .loop .inv .2
 
 add-t16 : tie.Need-add-t16 Inv-loop μ-loop
-add-t16 c = omega (arith, c .before .before .before .before .before .before .before .before .before .refill .ensures .0, c .before .before .before .before .before .before .before .before .before .refill .ensures .1, c .before .before .before .before .before .before .if1 .left, c .before .before .before .before .before .before .before .before .before .refill .kept .0, c .before .before .before .before .before .before .before .before .before .before .before .before .loop .inv .1, c .before .before .before .before .before .before .before .before .before .before .before .before .before .before .before .before .good)
+add-t16 c =
+    let at-if1 = c .before .before .before .before .before .before in
+    let at-refill = at-if1 .before .before .before in
+    let at-loop = at-refill .before .before .before in
+    let at-good = at-loop .before .before .before .before in
+    omega (arith, at-refill .refill .ensures .0, at-refill .refill .ensures .1, at-if1 .if1 .left, at-refill .refill .kept .0, at-loop .loop .inv .1, at-good .good)
 
 same-length-3 : tie.Need-same-length-3 Inv-loop μ-loop
 same-length-3 c = omega (arith, c .before .before .before .take-byte .kept .0, c .before .before .before .before .before .before .before .before .before .before .before .before .loop .inv .0)
 
 same-length-4 : tie.Need-same-length-4 Inv-loop μ-loop
-same-length-4 c = omega (arith, c .before .before .before .before .before .before .before .before .before .refill .kept .0, c .before .before .before .before .before .before .before .before .before .before .before .before .loop .inv .1)
+same-length-4 c =
+    let at-refill = c .before .before .before .before .before .before .before .before .before in
+    let at-loop = at-refill .before .before .before in
+    omega (arith, at-refill .refill .kept .0, at-loop .loop .inv .1)
 
 returns-2 : tie.Need-returns-2 Inv-loop μ-loop
-returns-2 c = (c .before .before .before .take-byte .ensures .0, omega (arith, c .before .before .before .before .before .before .before .before .before .refill .ensures .0, c .before .before .before .before .before .before .if1 .left), c .before .before .before .before .before .before .before .before .before .refill .ensures .1)
+returns-2 c =
+    let at-take-byte = c .before .before .before in
+    let at-if1 = at-take-byte .before .before .before in
+    let at-refill = at-if1 .before .before .before in
+    (at-take-byte .take-byte .ensures .0, omega (arith, at-refill .refill .ensures .0, at-if1 .if1 .left), at-refill .refill .ensures .1)
 
 add-unread : tie.Need-add-unread Inv-loop μ-loop
-add-unread c = omega (arith, c .before .before .before .before .before .before .before .before .before .refill .ensures .0, c .before .before .before .before .before .before .before .before .before .refill .ensures .1, c .before .before .before .before .before .before .if1 .left, c .before .before .before .before .before .before .before .before .before .refill .kept .0, c .before .before .before .before .before .before .before .before .before .before .before .before .loop .inv .1, c .before .before .before .before .before .before .before .before .before .before .before .before .before .before .before .before .good)
+add-unread c =
+    let at-if1 = c .before .before .before .before .before .before in
+    let at-refill = at-if1 .before .before .before in
+    let at-loop = at-refill .before .before .before in
+    let at-good = at-loop .before .before .before .before in
+    omega (arith, at-refill .refill .ensures .0, at-refill .refill .ensures .1, at-if1 .if1 .left, at-refill .refill .kept .0, at-loop .loop .inv .1, at-good .good)
 
 unread-requires : tie.Need-unread-requires Inv-loop μ-loop
 unread-requires c κs = tt
@@ -64,7 +83,11 @@ loop-less : tie.Need-loop-less Inv-loop μ-loop
 loop-less c = omega arith
 
 loop-again : tie.Need-loop-again Inv-loop μ-loop
-loop-again c = (omega (arith, c .before .before .before .before .take-byte .kept .0, c .before .before .before .before .before .before .before .before .before .before .before .before .before .loop .inv .0), omega (arith, c .before .before .before .before .before .before .before .before .before .before .refill .kept .0, c .before .before .before .before .before .before .before .before .before .before .before .before .before .loop .inv .1), c .before .before .before .before .take-byte .ensures .0)
+loop-again c =
+    let at-take-byte = c .before .before .before .before in
+    let at-refill = at-take-byte .before .before .before .before .before .before in
+    let at-loop = at-refill .before .before .before in
+    (omega (arith, at-take-byte .take-byte .kept .0, at-loop .loop .inv .0), omega (arith, at-refill .refill .kept .0, at-loop .loop .inv .1), at-take-byte .take-byte .ensures .0)
 
 start-requires-2 : tie.Need-start-requires-2 Inv-loop μ-loop
 start-requires-2 c κs = tt

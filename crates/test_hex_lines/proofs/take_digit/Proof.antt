@@ -7,10 +7,14 @@ use Rattle.test_hex_lines.proofs.take_digit.Statement.{statement}
 use Rattle.test_hex_lines.proofs.take_digit.Tie as tie
 
 returns : tie.Need-returns
-returns c = let a = c .before .before .before .args in (c .before .before .before .pre, digit-first _ _ _ (c .if1 .taken))
+returns c =
+    let start = c .before .before .before in
+    let a = start .args in (start .pre, digit-first _ _ _ (c .if1 .taken))
 
 returns-2 : tie.Need-returns-2
-returns-2 c = let a = c .before .before .before .before .args in (c .before .before .before .before .pre, digit-lost (a .bytes .now) (a .d) (a .line) (c .before .if1 .left) (c .if2 .taken))
+returns-2 c =
+    let start = c .before .before .before .before in
+    let a = start .args in (start .pre, digit-lost (a .bytes .now) (a .d) (a .line) (c .before .if1 .left) (c .if2 .taken))
 
 joined-requires : tie.Need-joined-requires
 joined-requires c κs = search needs
@@ -25,7 +29,9 @@ same-length : tie.Need-same-length
 same-length c = search needs
 
 returns-3 : tie.Need-returns-3
-returns-3 c = let a = c .before .before .before .before .before .args in (simp length-set (omega arith), digit-second (a .bytes .now) (a .d) _ (a .line) (c .before .before .if1 .left) (omega arith) (c .joined .ensures))
+returns-3 c =
+    let start = c .before .before .before .before .before in
+    let a = start .args in (simp length-set (omega arith), digit-second (a .bytes .now) (a .d) _ (a .line) (c .before .before .if1 .left) (omega arith) (c .joined .ensures))
 
 pub take-digit-spec : {M : Type 1} → statement M
 take-digit-spec =

@@ -33,7 +33,8 @@ same-length-3 : tie.Need-same-length-3 Inv-loop μ-loop
 same-length-3 c = c .before .before .before .before .before .before .before .before .before .before .loop .inv .2
 
 same-length-4 : tie.Need-same-length-4 Inv-loop μ-loop
-same-length-4 c = omega (arith, c .before .before .before .before .before .before .next-line .kept .1 .0, c .before .before .before .before .before .before .before .before .before .before .loop .inv .3)
+same-length-4 c =
+    omega (arith, c .before .before .before .before .before .before .next-line .kept .1 .0, c .before .before .before .before .before .before .before .before .before .before .loop .inv .3)
 
 returns : tie.Need-returns Inv-loop μ-loop
 returns c = search needs
@@ -60,7 +61,15 @@ loop-less : tie.Need-loop-less Inv-loop μ-loop
 loop-less c = omega arith
 
 loop-again : tie.Need-loop-again Inv-loop μ-loop
-loop-again c = (omega (arith, c .before .before .before .before .before .before .before .before .before .before .before .before .before .before .before .before .next-line .kept .0, c .before .before .before .before .before .before .before .before .before .before .before .before .before .before .before .before .before .before .before .before .loop .inv .0), omega (arith, c .before .before .before .before .before .answer .kept .1 .0, c .before .before .before .before .before .before .before .before .before .before .before .before .before .before .before .before .before .before .before .before .loop .inv .1), omega (arith, c .before .before .before .before .before .answer .kept .1 .1 .0, c .before .before .before .before .before .before .before .before .before .before .before .before .before .before .before .before .before .before .before .before .loop .inv .2), omega (arith, c .before .before .before .before .before .before .before .before .before .before .before .before .before .before .before .before .next-line .kept .1 .0, c .before .before .before .before .before .before .before .before .before .before .before .before .before .before .before .before .before .before .before .before .loop .inv .3))
+loop-again c =
+    let at-answer = c .before .before .before .before .before in
+    let at-next-line = at-answer .before .before .before .before .before .before .before .before .before .before .before in
+    let at-loop = at-next-line .before .before .before .before in (
+      omega (arith, at-next-line .next-line .kept .0, at-loop .loop .inv .0),
+      omega (arith, at-answer .answer .kept .1 .0, at-loop .loop .inv .1),
+      omega (arith, at-answer .answer .kept .1 .1 .0, at-loop .loop .inv .2),
+      omega (arith, at-next-line .next-line .kept .1 .0, at-loop .loop .inv .3),
+    )
 
 same-length-5 : tie.Need-same-length-5 Inv-loop μ-loop
 same-length-5 c = c .before .loop .inv .0

@@ -14,7 +14,9 @@ is-image-requires : tie.Need-is-image-requires
 is-image-requires c κs = search needs
 
 returns : tie.Need-returns
-returns c = no-image (c .before .before .before .before .args .image .now) (c .before .before .before .before .args .input .now) (c .before .is-image .ensures) (c .if1 .taken)
+returns c =
+    let start = c .before .before .before .before in
+    no-image (start .args .image .now) (start .args .input .now) (c .before .is-image .ensures) (c .if1 .taken)
 
 read-requires : tie.Need-read-requires
 read-requires c κs = search needs
@@ -26,7 +28,11 @@ enum-known-n : tie.Need-enum-known-n
 enum-known-n c = search needs
 
 reals-end-requires : tie.Need-reals-end-requires
-reals-end-requires c κs = image-is (c .before .before .before .before .before .before .before .before .args .image .now) (c .before .before .before .before .before .before .before .before .args .input .now) (c .before .before .before .before .before .is-image .ensures) (c .before .before .before .before .if1 .left)
+reals-end-requires c κs =
+    let at-if1 = c .before .before .before .before in
+    let at-is-image = at-if1 .before in
+    let start = at-is-image .before .before .before in
+    image-is (start .args .image .now) (start .args .input .now) (at-is-image .is-image .ensures) (at-if1 .if1 .left)
 
 sub-judge : tie.Need-sub-judge
 sub-judge c = search needs
@@ -38,18 +44,46 @@ part-judge-end : tie.Need-part-judge-end
 part-judge-end c = search needs
 
 slice-aggregate-judge : tie.Need-slice-aggregate-judge
-slice-aggregate-judge c = record-length (c .before .before .before .before .before .before .before .before .before .before .before .args .input .now) (known-bytes (c .before .before .before .before .before .before .before .before .before .before .before .args .input .now) (λ i. omega (arith, c .before .before .before .before .before .before .before .before .before .shared-slice-known2 .given i))) (ap replied (sym (c .before .before .before .before .n .given .1)) ∙ c .before .before .before .before .before .before .read .ensures)
+slice-aggregate-judge c =
+    let at-n = c .before .before .before .before in
+    let at-read = at-n .before .before in
+    let at-shared-slice-known2 = at-read .before .before .before in
+    let start = at-shared-slice-known2 .before .before in
+    record-length (start .args .input .now) (known-bytes (start .args .input .now) (λ i. omega (arith, at-shared-slice-known2 .shared-slice-known2 .given i)))
+    (ap replied (sym (at-n .n .given .1)) ∙ at-read .read .ensures)
 
 judge-requires : tie.Need-judge-requires
 judge-requires c κs =
-    let r = c .before .before .reals-end .ensures in
-    (lent-entries _ r, record-logged (c .before .before .before .before .before .before .before .before .before .before .before .args .input .now) (known-bytes (c .before .before .before .before .before .before .before .before .before .before .before .args .input .now) (λ i. omega (arith, c .before .before .before .before .before .before .before .before .before .shared-slice-known2 .given i))) (ap replied (sym (c .before .before .before .before .n .given .1)) ∙ c .before .before .before .before .before .before .read .ensures))
+    let at-n = c .before .before .before .before in
+    let at-read = at-n .before .before in
+    let at-shared-slice-known2 = at-read .before .before .before in
+    let start = at-shared-slice-known2 .before .before in
+    let r = c .before .before .reals-end .ensures in (
+      lent-entries _ r,
+      record-logged (start .args .input .now) (known-bytes (start .args .input .now) (λ i. omega (arith, at-shared-slice-known2 .shared-slice-known2 .given i)))
+          (ap replied (sym (at-n .n .given .1)) ∙ at-read .read .ensures),
+    )
 
 returns-2 : tie.Need-returns-2
-returns-2 c = read-refused (c .before .before .before .before .before .before .before .before .args .image .now) (c .before .before .before .before .before .before .before .before .args .input .now) (c .before .before .before .before .before .is-image .ensures) (c .before .before .before .before .if1 .left) (ap replied (sym (c .before .number .given .1)) ∙ c .before .before .before .read .ensures)
+returns-2 c =
+    let at-read = c .before .before .before in
+    let at-if1 = at-read .before in
+    let at-is-image = at-if1 .before in
+    let start = at-is-image .before .before .before in
+    read-refused (start .args .image .now) (start .args .input .now) (at-is-image .is-image .ensures) (at-if1 .if1 .left) (ap replied (sym (c .before .number .given .1)) ∙ at-read .read .ensures)
 
 returns-3 : tie.Need-returns-3
-returns-3 c = judged (c .before .before .before .before .before .before .before .before .before .before .before .before .args .image .now) (c .before .before .before .before .before .before .before .before .before .before .before .before .args .input .now) (c .before .before .before .before .before .before .before .before .before .is-image .ensures) (c .before .before .before .before .before .before .before .before .if1 .left) (known-bytes (c .before .before .before .before .before .before .before .before .before .before .before .before .args .input .now) (λ i. omega (arith, c .before .before .before .before .before .before .before .before .before .before .shared-slice-known2 .given i))) (ap replied (sym (c .before .before .before .before .before .n .given .1)) ∙ c .before .before .before .before .before .before .before .read .ensures) (c .before .before .before .reals-end .ensures) (c .judge .ensures)
+returns-3 c =
+    let at-reals-end = c .before .before .before in
+    let at-n = at-reals-end .before .before in
+    let at-read = at-n .before .before in
+    let at-if1 = at-read .before in
+    let at-is-image = at-if1 .before in
+    let at-shared-slice-known2 = at-is-image .before in
+    let start = at-shared-slice-known2 .before .before in
+    judged (start .args .image .now) (start .args .input .now) (at-is-image .is-image .ensures) (at-if1 .if1 .left)
+    (known-bytes (start .args .input .now) (λ i. omega (arith, at-shared-slice-known2 .shared-slice-known2 .given i)))
+    (ap replied (sym (at-n .n .given .1)) ∙ at-read .read .ensures) (at-reals-end .reals-end .ensures) (c .judge .ensures)
 
 pub validate-spec : {M : Type 1} → statement M
 validate-spec =

@@ -15,13 +15,18 @@ set-dirs-requires : tie.Need-set-dirs-requires
 set-dirs-requires c κs = (drafted-read (c .before .before .before .shut .ensures), c .before .before .before .before .before .before .before .before .before .before .before .pre .1)
 
 set-cordoned-requires : tie.Need-set-cordoned-requires
-set-cordoned-requires c κs = (drafted-read (c .before .before .before .set-dirs .ensures), c .before .before .before .before .before .before .before .before .before .before .before .before .before .before .before .pre .1)
+set-cordoned-requires c κs =
+    (drafted-read (c .before .before .before .set-dirs .ensures), c .before .before .before .before .before .before .before .before .before .before .before .before .before .before .before .pre .1)
 
 same-length : tie.Need-same-length
 same-length c = search needs
 
 returns : tie.Need-returns
-returns c = all-set _ _ (c .before .before .before .before .before .before .before .before .before .before .before .before .before .before .fence .ensures) (c .before .before .before .before .before .before .before .before .before .before .shut .ensures) (c .before .before .before .before .before .before .set-dirs .ensures) (c .before .before .set-cordoned .ensures)
+returns c =
+    let at-set-dirs = c .before .before .before .before .before .before in
+    let at-shut = at-set-dirs .before .before .before .before in
+    let at-fence = at-shut .before .before .before .before in
+    all-set _ _ (at-fence .fence .ensures) (at-shut .shut .ensures) (at-set-dirs .set-dirs .ensures) (c .before .before .set-cordoned .ensures)
 
 pub change-spec : {M : Type 1} → statement M
 change-spec =

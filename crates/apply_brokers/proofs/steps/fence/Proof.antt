@@ -7,7 +7,9 @@ use Rattle.apply_brokers.proofs.steps.fence.Statement.{statement}
 use Rattle.apply_brokers.proofs.steps.fence.Tie as tie
 
 value-number-requires : tie.Need-value-number-requires
-value-number-requires c κs = (c .before .before .pre .1 .is, omega arith, fencing-width _ (c .before .before .pre .1))
+value-number-requires c κs =
+    let start = c .before .before in
+    (start .pre .1 .is, omega arith, fencing-width _ (start .pre .1))
 
 slice-aggregate-replace : tie.Need-slice-aggregate-replace
 slice-aggregate-replace c = search needs
@@ -34,7 +36,11 @@ same-length-2 : tie.Need-same-length-2
 same-length-2 c = search needs
 
 returns-3 : tie.Need-returns-3
-returns-3 c = fenced _ (c .before .before .before .before .before .before .before .value-number .ensures) _ (c .before .before .before .before .before .before .if1 .left) (c .before .before .before .before .before .if2 .left) (c .before .before .replace2 .ensures)
+returns-3 c =
+    let at-if2 = c .before .before .before .before .before in
+    let at-if1 = at-if2 .before in
+    let at-value-number = at-if1 .before in
+    fenced _ (at-value-number .value-number .ensures) _ (at-if1 .if1 .left) (at-if2 .if2 .left) (c .before .before .replace2 .ensures)
 
 pub fence-spec : {M : Type 1} → statement M
 fence-spec =

@@ -5,13 +5,18 @@ use Rattle.apply_brokers.proofs.steps.replace.Statement.{statement}
 use Rattle.apply_brokers.proofs.steps.replace.Tie as tie
 
 set-field-requires : tie.Need-set-field-requires
-set-field-requires c κs = may-set (c .before .before .before .pre .0) (c .before .before .before .args .tag) (c .before .before .before .args .v .now) (c .before .before .before .pre .1)
+set-field-requires c κs =
+    let start = c .before .before .before in
+    may-set (start .pre .0) (start .args .tag) (start .args .v .now) (start .pre .1)
 
 same-length : tie.Need-same-length
 same-length c = search needs
 
 returns : tie.Need-returns
-returns c = field-set (c .before .before .before .before .before .before .pre .0) (c .before .before .before .before .before .before .args .tag) (c .before .before .before .before .before .before .args .v .now) (c .before .before .before .before .before .before .pre .1) (c .before .before .set-field .kept .0) (c .before .before .set-field .ensures)
+returns c =
+    let at-set-field = c .before .before in
+    let start = at-set-field .before .before .before .before in
+    field-set (start .pre .0) (start .args .tag) (start .args .v .now) (start .pre .1) (at-set-field .set-field .kept .0) (at-set-field .set-field .ensures)
 
 pub replace-spec : {M : Type 1} → statement M
 replace-spec = tie.close (tie.spec set-field-requires same-length returns)

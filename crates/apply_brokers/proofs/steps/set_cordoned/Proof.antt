@@ -26,13 +26,22 @@ part-replace-end : tie.Need-part-replace-end
 part-replace-end c = search needs
 
 replace-requires : tie.Need-replace-requires
-replace-requires c κs = (c .before .before .before .before .before .before .before .pre .0, cordoned-suit _ (c .before .before .before .before .before .before .before .pre .1) _ _ (c .before .before .value-at .ensures) (sym (c .before .before .before .before .has .ensures) ∙ not-false _ (c .before .before .before .if1 .left)))
+replace-requires c κs =
+    let at-if1 = c .before .before .before in
+    let at-has = at-if1 .before in
+    let start = at-has .before .before .before in
+    (start .pre .0, cordoned-suit _ (start .pre .1) _ _ (c .before .before .value-at .ensures) (sym (at-has .has .ensures) ∙ not-false _ (at-if1 .if1 .left)))
 
 same-length : tie.Need-same-length
 same-length c = search needs
 
 returns-2 : tie.Need-returns-2
-returns-2 c = cordoned-set _ (c .before .before .before .before .before .before .before .before .before .before .pre .1) _ _ _ (c .before .before .before .before .before .value-at .ensures) (sym (c .before .before .before .before .before .before .before .has .ensures) ∙ not-false _ (c .before .before .before .before .before .before .if1 .left)) (c .before .before .replace .ensures)
+returns-2 c =
+    let at-value-at = c .before .before .before .before .before in
+    let at-if1 = at-value-at .before in
+    let at-has = at-if1 .before in
+    let start = at-has .before .before .before in
+    cordoned-set _ (start .pre .1) _ _ _ (at-value-at .value-at .ensures) (sym (at-has .has .ensures) ∙ not-false _ (at-if1 .if1 .left)) (c .before .before .replace .ensures)
 
 pub set-cordoned-spec : {M : Type 1} → statement M
 set-cordoned-spec =

@@ -7,7 +7,9 @@ use Rattle.apply_brokers.proofs.steps.shut.Statement.{statement}
 use Rattle.apply_brokers.proofs.steps.shut.Tie as tie
 
 value-number-requires : tie.Need-value-number-requires
-value-number-requires c κs = (c .before .before .pre .1 .is, omega arith, shut-width _ (c .before .before .pre .1))
+value-number-requires c κs =
+    let start = c .before .before in
+    (start .pre .1 .is, omega arith, shut-width _ (start .pre .1))
 
 slice-aggregate-replace : tie.Need-slice-aggregate-replace
 slice-aggregate-replace c = search needs

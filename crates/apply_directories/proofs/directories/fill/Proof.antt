@@ -24,13 +24,25 @@ same-length : tie.Need-same-length
 same-length c = search needs
 
 returns : tie.Need-returns
-returns c = dirs-filled (c .before .before .before .before .before .before .before .before .before .before .before .before .before .before .before .before .args .dirs .now) (c .before .before .before .before .before .before .before .before .before .before .before .before .before .before .before .before .args .old .now) (c .before .before .before .before .before .before .before .before .before .before .before .before .before .before .before .before .args .id .now) (c .before .before .before .before .before .before .before .before .before .before .before .before .before .before .before .before .args .count) (c .before .before .before .before .before .before .before .before .before .before .before .before .before .before .before .before .args .slot) _ (c .before .before .before .before .before .before .before .before .before .before .before .before .before .before .before .before .pre) (c .before .before .before .before .before .before .before .before .before .before .before .clear .ensures) (c .before .before .before .before .before .before .before .copy .ensures) (c .before .before .before .copy2 .ensures) (omega arith)
+returns c =
+    let at-copy2 = c .before .before .before in
+    let at-copy = at-copy2 .before .before .before .before in
+    let at-clear = at-copy .before .before .before .before in
+    let start = at-clear .before .before .before .before .before in
+    dirs-filled (start .args .dirs .now) (start .args .old .now) (start .args .id .now) (start .args .count) (start .args .slot) _ (start .pre) (at-clear .clear .ensures)
+    (at-copy .copy .ensures) (at-copy2 .copy2 .ensures) (omega arith)
 
 same-length-2 : tie.Need-same-length-2
 same-length-2 c = search needs
 
 returns-2 : tie.Need-returns-2
-returns-2 c = dirs-filled (c .before .before .before .before .before .before .before .before .before .before .before .before .before .before .before .before .args .dirs .now) (c .before .before .before .before .before .before .before .before .before .before .before .before .before .before .before .before .args .old .now) (c .before .before .before .before .before .before .before .before .before .before .before .before .before .before .before .before .args .id .now) (c .before .before .before .before .before .before .before .before .before .before .before .before .before .before .before .before .args .count) (c .before .before .before .before .before .before .before .before .before .before .before .before .before .before .before .before .args .slot) _ (c .before .before .before .before .before .before .before .before .before .before .before .before .before .before .before .before .pre) (c .before .before .before .before .before .before .before .before .before .before .before .clear .ensures) (c .before .before .before .before .before .before .before .copy .ensures) (c .before .before .before .copy2 .ensures) (omega arith)
+returns-2 c =
+    let at-copy2 = c .before .before .before in
+    let at-copy = at-copy2 .before .before .before .before in
+    let at-clear = at-copy .before .before .before .before in
+    let start = at-clear .before .before .before .before .before in
+    dirs-filled (start .args .dirs .now) (start .args .old .now) (start .args .id .now) (start .args .count) (start .args .slot) _ (start .pre) (at-clear .clear .ensures)
+    (at-copy .copy .ensures) (at-copy2 .copy2 .ensures) (omega arith)
 
 pub fill-spec : {M : Type 1} → statement M
 fill-spec =

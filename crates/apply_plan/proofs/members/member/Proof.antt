@@ -10,7 +10,9 @@ is-bare-requires : tie.Need-is-bare-requires
 is-bare-requires c κs = search needs
 
 leave-requires : tie.Need-leave-requires
-leave-requires c κs = (c .before .before .before .before .before .before .before .pre .0, c .before .before .before .before .before .before .before .pre .1, c .before .before .before .before .before .before .before .pre .2, c .before .before .before .before .before .before .before .pre .3, c .before .before .before .before .before .before .before .pre .4, omega (arith, record-size _ (c .before .before .before .before .before .before .before .pre .1), c .before .before .before .before .before .before .before .pre .5))
+leave-requires c κs =
+    let start = c .before .before .before .before .before .before .before in
+    (start .pre .0, start .pre .1, start .pre .2, start .pre .3, start .pre .4, omega (arith, record-size _ (start .pre .1), start .pre .5))
 
 same-length : tie.Need-same-length
 same-length c = search needs
@@ -19,10 +21,17 @@ same-length-2 : tie.Need-same-length-2
 same-length-2 c = search needs
 
 returns : tie.Need-returns
-returns c = left _ (c .before .before .before .before .before .before .before .before .before .before .before .before .pre .2) (c .before .before .before .before .before .before .before .before .is-bare .ensures) (c .before .before .before .before .before .before .before .if1 .taken) (c .before .before .before .before .leave .ensures)
+returns c =
+    let at-leave = c .before .before .before .before in
+    let at-if1 = at-leave .before .before .before in
+    let at-is-bare = at-if1 .before in
+    let start = at-is-bare .before .before .before .before in
+    left _ (start .pre .2) (at-is-bare .is-bare .ensures) (at-if1 .if1 .taken) (at-leave .leave .ensures)
 
 join-requires : tie.Need-join-requires
-join-requires c κs = (c .before .before .before .before .before .before .before .pre .0, c .before .before .before .before .before .before .before .pre .1, c .before .before .before .before .before .before .before .pre .2, c .before .before .before .before .before .before .before .pre .4, omega (arith, record-size _ (c .before .before .before .before .before .before .before .pre .1), c .before .before .before .before .before .before .before .pre .5))
+join-requires c κs =
+    let start = c .before .before .before .before .before .before .before in
+    (start .pre .0, start .pre .1, start .pre .2, start .pre .4, omega (arith, record-size _ (start .pre .1), start .pre .5))
 
 same-length-3 : tie.Need-same-length-3
 same-length-3 c = search needs
@@ -31,7 +40,12 @@ same-length-4 : tie.Need-same-length-4
 same-length-4 c = search needs
 
 returns-2 : tie.Need-returns-2
-returns-2 c = joined _ (c .before .before .before .before .before .before .before .before .before .before .before .before .pre .2) (c .before .before .before .before .before .before .before .before .is-bare .ensures) (c .before .before .before .before .before .before .before .if1 .left) (c .before .before .before .before .join .ensures)
+returns-2 c =
+    let at-join = c .before .before .before .before in
+    let at-if1 = at-join .before .before .before in
+    let at-is-bare = at-if1 .before in
+    let start = at-is-bare .before .before .before .before in
+    joined _ (start .pre .2) (at-is-bare .is-bare .ensures) (at-if1 .if1 .left) (at-join .join .ensures)
 
 pub member-spec : {M : Type 1} → statement M
 member-spec =

@@ -39,9 +39,12 @@ same-length-3 c = search needs
 
 returns-2 : tie.Need-returns-2
 returns-2 c =
-    let start = c .before .before .before .before .before .before .before .before .before .before .before .before .before .before .before in
-    subst (Added (recordIn (start .args .rec .now) .run) (start .args .w .now) (start .args .state) (c .before .before .before .before .before .advance .last .0)) (sym (c .with-bounds .ensures))
-    (sym (c .before .before .before .before .before .before .before .before .before .overflows .ensures) ∙ c .before .before .before .before .before .before .before .before .if1 .left, c .before .before .before .before .before .advance .ensures, refl)
+    let at-advance = c .before .before .before .before .before in
+    let at-if1 = at-advance .before .before .before in
+    let at-overflows = at-if1 .before in
+    let start = at-overflows .before .before .before .before .before .before in
+    subst (Added (recordIn (start .args .rec .now) .run) (start .args .w .now) (start .args .state) (at-advance .advance .last .0)) (sym (c .with-bounds .ensures))
+    (sym (at-overflows .overflows .ensures) ∙ at-if1 .if1 .left, at-advance .advance .ensures, refl)
 
 pub add-offset-spec : {M : Type 1} → statement M
 add-offset-spec =

@@ -25,7 +25,10 @@ same-length : tie.Need-same-length
 same-length c = search needs
 
 returns : tie.Need-returns
-returns c = drop-lent (c .before .before .before .before .before .before .before .before .before .args .kind) (c .before .before .before .before .before .before .put .ensures) (c .before .before .erase-named .ensures)
+returns c =
+    let at-put = c .before .before .before .before .before .before in
+    let start = at-put .before .before .before in
+    drop-lent (start .args .kind) (at-put .put .ensures) (c .before .before .erase-named .ensures)
 
 pub erase-node-spec : {M : Type 1} → statement M
 erase-node-spec =

@@ -27,7 +27,8 @@ at-epoch-requires : tie.Need-at-epoch-requires
 at-epoch-requires c κs = let start = c .before .before .before .before in (start .pre .0 .reals, headed _ (start .pre .1))
 
 erase-node-requires : tie.Need-erase-node-requires
-erase-node-requires c κs = let start = c .before .before .before .before .before .before .before in (start .pre .0, broker-query _ (length-bytes 8 (c .before .before .before .before .node-at .result .0)))
+erase-node-requires c κs =
+    let start = c .before .before .before .before .before .before .before in (start .pre .0, broker-query _ (length-bytes 8 (c .before .before .before .before .node-at .result .0)))
 
 same-length : tie.Need-same-length
 same-length c = search needs

@@ -17,13 +17,18 @@ part-copy-end : tie.Need-part-copy-end
 part-copy-end c = search needs
 
 copy-requires : tie.Need-copy-requires
-copy-requires c κs = copied-fits (c .before .before .before .before .before .args .v .now) (c .before .before .before .before .before .args .e .now) _ _ _ (c .before .before .value-at .ensures) (c .before .before .before .before .before .pre .1)
+copy-requires c κs =
+    let start = c .before .before .before .before .before in
+    copied-fits (start .args .v .now) (start .args .e .now) _ _ _ (c .before .before .value-at .ensures) (start .pre .1)
 
 same-length : tie.Need-same-length
 same-length c = search needs
 
 returns : tie.Need-returns
-returns c = copied (c .before .before .before .before .before .before .before .before .args .v .now) (c .before .before .before .before .before .before .before .before .args .e .now) _ _ _ (c .before .before .before .before .before .value-at .ensures) (c .before .before .before .before .before .before .before .before .pre .1) (c .before .before .copy .ensures)
+returns c =
+    let at-value-at = c .before .before .before .before .before in
+    let start = at-value-at .before .before .before in
+    copied (start .args .v .now) (start .args .e .now) _ _ _ (at-value-at .value-at .ensures) (start .pre .1) (c .before .before .copy .ensures)
 
 pub copy-value-spec : {M : Type 1} → statement M
 copy-value-spec =

@@ -12,7 +12,9 @@ slice-aggregate-find : tie.Need-slice-aggregate-find
 slice-aggregate-find c = search needs
 
 find-requires : tie.Need-find-requires
-find-requires c κs = (c .before .before .before .before .pre .0, topic-query _ (c .before .before .before .before .pre .1))
+find-requires c κs =
+    let start = c .before .before .before .before in
+    (start .pre .0, topic-query _ (start .pre .1))
 
 returns : tie.Need-returns
 returns c = no-old _ _ (c .before .find .ensures) (c .if1 .taken) _
@@ -28,7 +30,12 @@ part-copy-value-end c = search needs
 
 copy-value-requires : tie.Need-copy-value-requires
 copy-value-requires c κs =
-    (old-headed _ _ (c .before .before .before .find .ensures) (known-bytes (c .before .before .before .before .before .before .before .before .args .s .now) (λ i. omega (arith, c .before .before .before .before .before .before .before .shared-slice-known .given i))) (c .before .before .before .before .before .before .before .before .pre .0) (c .before .before .if1 .left), old-id _ _ (c .before .before .before .find .ensures) (known-bytes (c .before .before .before .before .before .before .before .before .args .s .now) (λ i. omega (arith, c .before .before .before .before .before .before .before .shared-slice-known .given i))) (c .before .before .before .before .before .before .before .before .pre .0) (c .before .before .if1 .left) ∙ sym (c .before .before .before .before .before .before .before .before .pre .2))
+    let at-if1 = c .before .before in
+    let at-find = at-if1 .before in
+    let known = at-find .before .before .before .before in
+    let start = known .before in
+    let are-bytes = known-bytes (start .args .s .now) (λ i. omega (arith, known .shared-slice-known .given i)) in
+    (old-headed _ _ (at-find .find .ensures) are-bytes (start .pre .0) (at-if1 .if1 .left), old-id _ _ (at-find .find .ensures) are-bytes (start .pre .0) (at-if1 .if1 .left) ∙ sym (start .pre .2))
 
 sub-value-number : tie.Need-sub-value-number
 sub-value-number c = search needs
@@ -41,13 +48,25 @@ part-value-number-end c = search needs
 
 value-number-requires : tie.Need-value-number-requires
 value-number-requires c κs =
-    (old-is _ _ (c .before .before .before .before .before .before .before .find .ensures) (known-bytes (c .before .before .before .before .before .before .before .before .before .before .before .before .args .s .now) (λ i. omega (arith, c .before .before .before .before .before .before .before .before .before .before .before .shared-slice-known .given i))) (c .before .before .before .before .before .before .before .before .before .before .before .before .pre .0) (c .before .before .before .before .before .before .if1 .left), omega arith, old-count _ _ (c .before .before .before .before .before .before .before .find .ensures) (known-bytes (c .before .before .before .before .before .before .before .before .before .before .before .before .args .s .now) (λ i. omega (arith, c .before .before .before .before .before .before .before .before .before .before .before .shared-slice-known .given i))) (c .before .before .before .before .before .before .before .before .before .before .before .before .pre .0) (c .before .before .before .before .before .before .if1 .left))
+    let at-if1 = c .before .before .before .before .before .before in
+    let at-find = at-if1 .before in
+    let known = at-find .before .before .before .before in
+    let start = known .before in
+    let are-bytes = known-bytes (start .args .s .now) (λ i. omega (arith, known .shared-slice-known .given i)) in
+    (old-is _ _ (at-find .find .ensures) are-bytes (start .pre .0) (at-if1 .if1 .left), omega arith, old-count _ _ (at-find .find .ensures) are-bytes (start .pre .0) (at-if1 .if1 .left))
 
 same-length : tie.Need-same-length
 same-length c = search needs
 
 returns-2 : tie.Need-returns-2
-returns-2 c = old-found _ _ (c .before .before .before .before .before .before .before .before .find .ensures) (known-bytes (c .before .before .before .before .before .before .before .before .before .before .before .before .before .args .s .now) (λ i. omega (arith, c .before .before .before .before .before .before .before .before .before .before .before .before .shared-slice-known .given i))) (c .before .before .before .before .before .before .before .before .before .before .before .before .before .pre .0) (c .before .before .before .before .before .before .before .if1 .left) (c .value-number .ensures) (c .before .before .before .before .copy-value .ensures)
+returns-2 c =
+    let at-copy-value = c .before .before .before .before in
+    let at-if1 = at-copy-value .before .before .before in
+    let at-find = at-if1 .before in
+    let known = at-find .before .before .before .before in
+    let start = known .before in
+    old-found _ _ (at-find .find .ensures) (known-bytes (start .args .s .now) (λ i. omega (arith, known .shared-slice-known .given i))) (start .pre .0) (at-if1 .if1 .left)
+    (c .value-number .ensures) (at-copy-value .copy-value .ensures)
 
 pub old-topic-spec : {M : Type 1} → statement M
 old-topic-spec =

@@ -16,11 +16,16 @@ bare c = begun (c .begin .last .0) (c .begin .result) (c .before .before .before
 
 -- the record with the name
 with-name : (c : tie.After-set-field)
-    → Upto 261 (c .set-field .last .0) (c .set-field .result) (c .before .before .before .before .before .before .before .before .before .before .before .args .kind) (setField 1 (value 1 (partitionOf (runIn (c .before .before .before .before .before .before .before .before .before .before .before .args .rec .now)))) done)
+    → let start = c .before .before .before .before .before .before .before .before .before .before .before in
+    Upto 261 (c .set-field .last .0) (c .set-field .result) (start .args .kind) (setField 1 (value 1 (partitionOf (runIn (start .args .rec .now)))) done)
 with-name c =
-    let a = c .before .before .before .before .before .before .before .before .nested-at in
-    let s = c .before .before .before .before .before .before .before .before .before .before .before .args .rec .now in
-    step-says (bare (c .before .before .before .before .before)) (lent s (value 1 (partitionOf (runIn s))) (a .result .start) (a .result .end) (a .ensures)) 255 (name-short s (c .before .before .before .before .before .before .before .before .before .before .before .pre .0)) (lit< tt) 1 (c .set-field .last .0) (c .set-field .result) (c .set-field .ensures)
+    let here = c .before .before .before .before .before in
+    let at-nested-at = here .before .before .before in
+    let start = at-nested-at .before .before .before in
+    let a = at-nested-at .nested-at in
+    let s = start .args .rec .now in
+    step-says (bare here) (lent s (value 1 (partitionOf (runIn s))) (a .result .start) (a .result .end) (a .ensures)) 255 (name-short s (start .pre .0)) (lit< tt) 1
+    (c .set-field .last .0) (c .set-field .result) (c .set-field .ensures)
 
 nested-at-requires : tie.Need-nested-at-requires
 nested-at-requires c κs =
@@ -48,7 +53,8 @@ set-field-requires c κs =
     let a = b .before .before .before .nested-at in
     let g = b .before .before .before .before .before .before in
     let s = g .args .rec .now in
-    step-asks (bare b) (lent s (value 1 (partitionOf (runIn s))) (a .result .start) (a .result .end) (a .ensures)) 255 (name-short s (g .pre .0)) (lit< tt) (omega (arith, b .begin .kept .0, g .pre .1))
+    step-asks (bare b) (lent s (value 1 (partitionOf (runIn s))) (a .result .start) (a .result .end) (a .ensures)) 255 (name-short s (g .pre .0)) (lit< tt)
+    (omega (arith, b .begin .kept .0, g .pre .1))
 
 sub-set-field-2 : tie.Need-sub-set-field-2
 sub-set-field-2 c = search needs
@@ -66,7 +72,8 @@ set-field-requires-2 c κs =
     let a = b .before .before .nested-at2 in
     let g = b .before .before .before .before .before .before in
     let s = g .args .rec .now in
-    step-asks (with-name n) (lent s (value 2 (partitionOf (runIn s))) (a .result .start) (a .result .end) (a .ensures)) 4 (number-short s (g .pre .0)) (lit< tt) (omega (arith, n .set-field .kept .0, b .begin .kept .0, g .pre .1))
+    step-asks (with-name n) (lent s (value 2 (partitionOf (runIn s))) (a .result .start) (a .result .end) (a .ensures)) 4 (number-short s (g .pre .0)) (lit< tt)
+    (omega (arith, n .set-field .kept .0, b .begin .kept .0, g .pre .1))
 
 same-length : tie.Need-same-length
 same-length c = search needs
@@ -78,7 +85,8 @@ returns c =
     let a = n .before .before .before .before .before .before .before .nested-at2 in
     let g = n .before .before .before .before .before .before .before .before .before .before .before in
     let s = g .args .rec .now in
-    named-is s (g .pre .0) (step-says (with-name n) (lent s (value 2 (partitionOf (runIn s))) (a .result .start) (a .result .end) (a .ensures)) 4 (number-short s (g .pre .0)) (lit< tt) 2 (f .last .0) (f .result) (f .ensures))
+    named-is s (g .pre .0)
+    (step-says (with-name n) (lent s (value 2 (partitionOf (runIn s))) (a .result .start) (a .result .end) (a .ensures)) 4 (number-short s (g .pre .0)) (lit< tt) 2 (f .last .0) (f .result) (f .ensures))
 
 pub begin-named-spec : {M : Type 1} → statement M
 begin-named-spec =

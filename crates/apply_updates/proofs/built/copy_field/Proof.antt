@@ -31,9 +31,12 @@ same-length c = search needs
 
 returns : tie.Need-returns
 returns c =
-    let p = c .before .before .before .before .before .value-at in
-    let a = c .before .before .before .before .before .before .before .before .args in
-    copy-says (a .rec .now) (value (a .from) (runIn (a .rec .now))) (p .result .start) (p .result .end) (p .ensures) (a .b .now) (a .n) (kindIn (a .b .now)) (a .tag) (runIn (take (a .n) (a .b .now))) (c .before .before .set-field .ensures)
+    let at-value-at = c .before .before .before .before .before in
+    let start = at-value-at .before .before .before in
+    let p = at-value-at .value-at in
+    let a = start .args in
+    copy-says (a .rec .now) (value (a .from) (runIn (a .rec .now))) (p .result .start) (p .result .end) (p .ensures) (a .b .now) (a .n) (kindIn (a .b .now)) (a .tag)
+    (runIn (take (a .n) (a .b .now))) (c .before .before .set-field .ensures)
 
 pub copy-field-spec : {M : Type 1} → statement M
 copy-field-spec =

@@ -13,13 +13,17 @@ use Rattle.apply_updates.proofs.built.elr_record.Tie as tie
 
 -- the record with the name and the number
 begun : (c : tie.After-begin-named) → Upto 268 (c .begin-named .last .0) (c .begin-named .result) 21 (namedOf (runIn (c .before .before .before .before .args .rec .now)))
-begun c = named-draft (c .before .before .before .before .args .rec .now) (c .before .before .before .before .pre .0) (c .begin-named .last .0) (c .begin-named .result) 21 (c .begin-named .ensures)
+begun c =
+    let start = c .before .before .before .before in
+    named-draft (start .args .rec .now) (start .pre .0) (c .begin-named .last .0) (c .begin-named .result) 21 (c .begin-named .ensures)
 
 -- the record with the first list
 with-eligible : (c : tie.After-copy-field)
     → Upto 783 (c .copy-field .last .0) (c .copy-field .result) 21 (setField 3 (value 2 (runIn (c .before .before .before .before .before .before .before .before .args .rec .now))) (namedOf (runIn (c .before .before .before .before .before .before .before .before .args .rec .now))))
 with-eligible c =
-    step-says (begun (c .before .before .before .before)) refl 512 (eligible-short _ (c .before .before .before .before .before .before .before .before .pre .0)) (lit< tt) 3 (c .copy-field .last .0) (c .copy-field .result) (c .copy-field .ensures)
+    let here = c .before .before .before .before in
+    let start = here .before .before .before .before in
+    step-says (begun here) refl 512 (eligible-short _ (start .pre .0)) (lit< tt) 3 (c .copy-field .last .0) (c .copy-field .result) (c .copy-field .ensures)
 
 begin-named-requires : tie.Need-begin-named-requires
 begin-named-requires c κs = search needs

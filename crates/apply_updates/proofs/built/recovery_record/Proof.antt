@@ -13,7 +13,9 @@ use Rattle.apply_updates.proofs.built.recovery_record.Tie as tie
 
 -- the record with the name and the number
 begun : (c : tie.After-begin-named) → Upto 268 (c .begin-named .last .0) (c .begin-named .result) 22 (namedOf (runIn (c .before .before .before .before .args .rec .now)))
-begun c = named-draft (c .before .before .before .before .args .rec .now) (c .before .before .before .before .pre .0) (c .begin-named .last .0) (c .begin-named .result) 22 (c .begin-named .ensures)
+begun c =
+    let start = c .before .before .before .before in
+    named-draft (start .args .rec .now) (start .pre .0) (c .begin-named .last .0) (c .begin-named .result) 22 (c .begin-named .ensures)
 
 begin-named-requires : tie.Need-begin-named-requires
 begin-named-requires c κs = search needs

@@ -27,7 +27,9 @@ loop-holds c =
 
 -- the part that is walked is within the buffer, and of bytes
 within : (c : tie.At-loop Inv-loop μ-loop) → c .before .before .before .args .to ≤ length (c .before .before .before .args .w .now)
-within c = omega (arith, c .before .before .before .pre .1, c .before .before .before .pre .2)
+within c =
+    let start = c .before .before .before in
+    omega (arith, start .pre .1, start .pre .2)
 
 bytes-in : (c : tie.At-loop Inv-loop μ-loop) → AreBytes (take (c .before .before .before .args .to) (c .loop .w))
 bytes-in c = take-are-bytes (c .before .before .before .args .to) (c .loop .w) (c .loop .inv .are)
@@ -79,13 +81,20 @@ shift-requires c κs =
     (omega arith, omega (arith, c .before .before .before .before .before .before .before .before .before .before .loop .inv .order))
 
 add-top : tie.Need-add-top Inv-loop μ-loop
-add-top c = omega (arith, bounds (turn (c .before .before .before .before .before .before .before .before .before)), c .before .before .before .before .before .before .before .before .before .before .before .before .before .loop .inv .order)
+add-top c =
+    let here = c .before .before .before .before .before .before .before .before .before in
+    let at-loop = here .before .before .before .before in
+    omega (arith, bounds (turn here), at-loop .loop .inv .order)
 
 loop-less : tie.Need-loop-less Inv-loop μ-loop
 loop-less c = falls (turn (c .before .before .before .before .before .before .before .before .before))
 
 loop-again : tie.Need-loop-again Inv-loop μ-loop
-loop-again c = moved-down (turn (c .before .before .before .before .before .before .before .before .before)) (c .before .before .shift .ensures) (c .before .before .before .before .before .is-apart .ensures) (c .before .before .before .before .if1 .taken)
+loop-again c =
+    let at-if1 = c .before .before .before .before in
+    let at-is-apart = at-if1 .before in
+    let here = at-is-apart .before .before .before .before in
+    moved-down (turn here) (c .before .before .shift .ensures) (at-is-apart .is-apart .ensures) (at-if1 .if1 .taken)
 
 loop-less-2 : tie.Need-loop-less-2 Inv-loop μ-loop
 loop-less-2 c = falls (turn (c .before .before .before .before .before))
@@ -130,10 +139,12 @@ same-length-2 c = search needs
 
 returns-2 : tie.Need-returns-2 Inv-loop μ-loop
 returns-2 c =
-    let l = c .before .before .before .before .before .before .before .before .before in
+    let at-enum-told2 = c .before .before .before .before .before in
+    let at-next = at-enum-told2 .before .before in
+    let l = at-next .before .before in
     let p = l .before .before .before .pre in
     let last = c .before .before .splice2 in
-    closed (within l) (l .loop .inv) (ended _ (bytes-in l) _ (l .loop .inv .entries) (c .before .before .before .before .before .before .before .next .ensures) (c .before .before .before .before .before .enum-told2 .given .1))
+    closed (within l) (l .loop .inv) (ended _ (bytes-in l) _ (l .loop .inv .entries) (at-next .next .ensures) (at-enum-told2 .enum-told2 .given .1))
     (p .1) (p .2) (last .kept .0) refl (last .ensures)
 
 pub remove-topic-spec : {M : Type 1} → statement M

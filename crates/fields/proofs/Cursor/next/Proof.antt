@@ -10,8 +10,9 @@ use Rattle.fields.proofs.Cursor.next.Tie as tie
 returns : tie.Need-returns
 unfolding told Onward
 returns c =
-    let e : c .before .before .args .self .at ≡ c .before .before .args .self .to = omega arith in
-    (sym (parse-end _ _ (c .before .before .pre .1) _ e), tt)
+    let start = c .before .before in
+    let e : start .args .self .at ≡ start .args .self .to = omega arith in
+    (sym (parse-end _ _ (start .pre .1) _ e), tt)
 
 sub-if2 : tie.Need-sub-if2
 sub-if2 c = search needs
@@ -52,9 +53,10 @@ add-t9 c = search needs
 returns-4 : tie.Need-returns-4
 unfolding told Onward
 returns-4 c =
-    let a = c .before .before .before .before .before .before .before .args in
+    let start = c .before .before .before .before .before .before .before in
+    let a = start .args in
     let g = c .before .before .before .get16 in
-    let within = c .before .before .before .before .before .before .before .pre .1 in (
+    let within = start .pre .1 in (
       rw (c .size .ensures .0)
           (sym (parse-item (a .s .now) (a .self .to) within (a .self .at) (g .result) (omega arith) (g .ensures .0) (c .before .before .if3 .left))),
       (omega arith, omega arith, refl, refl, omega arith, omega arith, omega arith),

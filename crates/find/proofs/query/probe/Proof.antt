@@ -35,15 +35,18 @@ same-length c = search needs
 
 returns : tie.Need-returns
 returns c =
-    let a = c .before .before .before .before .before .before .before .before .before .before .before .before .before .before .before .args in
-    let h = c .before .before .before .before .before .before .before .before .before .before .put-head in
-    let f = c .before .before .before .before .before .before .put-field in
+    let at-put-field = c .before .before .before .before .before .before in
+    let at-put-head = at-put-field .before .before .before .before in
+    let start = at-put-head .before .before .before .before .before in
+    let a = start .args in
+    let h = at-put-head .put-head in
+    let f = at-put-field .put-field in
     let g = c .before .before .put-field2 in
     let n : 6 + length (a .first .now) + 3 + length (a .second .now) ≡ probeSize (a .first .now) (a .second .now) = omega arith in
     let l : 6 + length (a .first .now) + 3 + length (a .second .now) - 3 ≡ 6 + length (a .first .now) + length (a .second .now) = omega arith in (
       n,
       ap (λ x. take x (g .last .0)) n
-          ∙ probe-written (a .p .now) (h .last .0) (f .last .0) (g .last .0) (a .first .now) (a .second .now) (a .kind) (c .before .before .before .before .before .before .before .before .before .before .before .before .before .before .before .pre) l refl (h .ensures) (f .ensures) (g .ensures),
+          ∙ probe-written (a .p .now) (h .last .0) (f .last .0) (g .last .0) (a .first .now) (a .second .now) (a .kind) (start .pre) l refl (h .ensures) (f .ensures) (g .ensures),
     )
 
 pub probe-spec : {M : Type 1} → statement M

@@ -18,7 +18,10 @@ same-length c = search needs
 
 returns-2 : tie.Need-returns-2
 returns-2 c =
-    emit-room _ _ (c .before .before .before .before .before .before .before .before .pre) (c .before .before .before .before .before .returned-size .ensures) (c .before .before .before .before .if1 .left) (c .before .before .put-returned .ensures)
+    let at-if1 = c .before .before .before .before in
+    let at-returned-size = at-if1 .before in
+    let start = at-returned-size .before .before .before in
+    emit-room _ _ (start .pre) (at-returned-size .returned-size .ensures) (at-if1 .if1 .left) (c .before .before .put-returned .ensures)
 
 pub emit-returned-spec : {M : Type 1} → statement M
 emit-returned-spec =

@@ -23,7 +23,8 @@ same-length : tie.Need-same-length
 same-length c = search needs
 
 returns : tie.Need-returns
-returns c = wide-value (c .before .before .before .before .before .before .before .features-epoch .ensures) (c .before .before .before .before .before .n .given .1) _ (c .before .before .put-first .ensures)
+returns c =
+    wide-value (c .before .before .before .before .before .before .before .features-epoch .ensures) (c .before .before .before .before .before .n .given .1) _ (c .before .before .put-first .ensures)
 
 returns-2 : tie.Need-returns-2
 returns-2 c = wide-refused (c .before .before .before .before .features-epoch .ensures) (c .before .before .number .given .1) (c .alone .ensures) _

@@ -26,7 +26,8 @@ same-length : tie.Need-same-length
 same-length c = search needs
 
 returns : tie.Need-returns
-returns c = rate-value (c .before .before .before .before .before .before .before .throttle .ensures) (c .before .before .before .before .before .rate .given .1) _ (c .before .before .put-first .ensures)
+returns c =
+    rate-value (c .before .before .before .before .before .before .before .throttle .ensures) (c .before .before .before .before .before .rate .given .1) _ (c .before .before .put-first .ensures)
 
 returns-2 : tie.Need-returns-2
 returns-2 c = rate-none (c .before .before .throttle .ensures) (c .enum-told .given .1) _

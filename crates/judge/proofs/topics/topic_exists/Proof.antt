@@ -41,9 +41,11 @@ unless-requires c κs = search needs
 
 returns-2 : tie.Need-returns-2
 returns-2 c =
-    let f = c .before .before .before .before in
-    let a = c .before .before .before .before .before .before .before .before in
-    replaced _ (a .args .rec .now) (f .before .find-named .ensures) (bytes-in f) (a .pre .0) (f .if1 .left) (c .before .before .before .partitions-of .ensures .0) (c .unless .ensures) (c .before .may-replace .ensures)
+    let at-partitions-of = c .before .before .before in
+    let f = at-partitions-of .before in
+    let a = f .before .before .before .before in
+    replaced _ (a .args .rec .now) (f .before .find-named .ensures) (bytes-in f) (a .pre .0) (f .if1 .left) (at-partitions-of .partitions-of .ensures .0) (c .unless .ensures)
+    (c .before .may-replace .ensures)
 
 pub topic-exists-spec : {M : Type 1} → statement M
 topic-exists-spec =

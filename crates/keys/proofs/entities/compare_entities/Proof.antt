@@ -22,9 +22,10 @@ abbrev μ-loop : tie.MeasureT-loop
 
 loop-holds : tie.Need-loop-holds Inv-loop μ-loop
 loop-holds c =
-    let p = c .before .before .pre in
-    let a = begins (c .before .before .args .a .now) in
-    let b = begins (c .before .before .args .b .now) in (
+    let start = c .before .before in
+    let p = start .pre in
+    let a = begins (start .args .a .now) in
+    let b = begins (start .args .b .now) in (
       (p .first, omega arith),
       (p .second, omega arith),
       rw a (p .first-ascends),
@@ -55,25 +56,37 @@ enum-told c = search needs
 
 returns : tie.Need-returns Inv-loop μ-loop
 returns c =
-    let x = stands (c .before .before .before .before .before .before .before .before .start .given .1) (c .before .before .before .before .before .before .before .before .before .before .next-entity .ensures) in
-    let y = stands (c .before .before .before .before .from .given .1) (c .before .before .before .before .before .before .next-entity2 .ensures) in
+    let at-from = c .before .before .before .before in
+    let at-next-entity2 = at-from .before .before in
+    let at-start = at-next-entity2 .before .before in
+    let at-next-entity = at-start .before .before in
+    let at-loop = at-next-entity .before in
+    let x = stands (at-start .start .given .1) (at-next-entity .next-entity .ensures) in
+    let y = stands (at-from .from .given .1) (at-next-entity2 .next-entity2 .ensures) in
     let h = c .before .before .compare-entity .ensures in
-    heads-less _ _ _ _ _ _ (x .front) (y .front) h (c .enum-told .given .1) ∙ c .before .before .before .before .before .before .before .before .before .before .before .loop .inv .4
+    heads-less _ _ _ _ _ _ (x .front) (y .front) h (c .enum-told .given .1) ∙ at-loop .loop .inv .4
 
 enum-told-2 : tie.Need-enum-told-2 Inv-loop μ-loop
 enum-told-2 c = search needs
 
 loop-less : tie.Need-loop-less Inv-loop μ-loop
 loop-less c =
-    let x = stands (c .before .before .before .before .before .before .before .before .start .given .1) (c .before .before .before .before .before .before .before .before .before .before .next-entity .ensures) in
+    let at-start = c .before .before .before .before .before .before .before .before in
+    let at-next-entity = at-start .before .before in
+    let x = stands (at-start .start .given .1) (at-next-entity .next-entity .ensures) in
     omega (arith, x .onwards, x .ends, x .inside)
 
 loop-again : tie.Need-loop-again Inv-loop μ-loop
 loop-again c =
-    let x = stands (c .before .before .before .before .before .before .before .before .start .given .1) (c .before .before .before .before .before .before .before .before .before .before .next-entity .ensures) in
-    let y = stands (c .before .before .before .before .from .given .1) (c .before .before .before .before .before .before .next-entity2 .ensures) in
+    let at-from = c .before .before .before .before in
+    let at-next-entity2 = at-from .before .before in
+    let at-start = at-next-entity2 .before .before in
+    let at-next-entity = at-start .before .before in
+    let at-loop = at-next-entity .before in
+    let x = stands (at-start .start .given .1) (at-next-entity .next-entity .ensures) in
+    let y = stands (at-from .from .given .1) (at-next-entity2 .next-entity2 .ensures) in
     let h = c .before .before .compare-entity .ensures in
-    let i = c .before .before .before .before .before .before .before .before .before .before .before .loop .inv in (
+    let i = at-loop .loop .inv in (
       (x .inside, omega (arith, x .ends, i .0 .1)),
       (y .inside, omega (arith, y .ends, i .1 .1)),
       x .ascends (i .2),
@@ -86,10 +99,15 @@ enum-told-3 c = search needs
 
 returns-2 : tie.Need-returns-2 Inv-loop μ-loop
 returns-2 c =
-    let x = stands (c .before .before .before .before .before .before .before .before .start .given .1) (c .before .before .before .before .before .before .before .before .before .before .next-entity .ensures) in
-    let y = stands (c .before .before .before .before .from .given .1) (c .before .before .before .before .before .before .next-entity2 .ensures) in
+    let at-from = c .before .before .before .before in
+    let at-next-entity2 = at-from .before .before in
+    let at-start = at-next-entity2 .before .before in
+    let at-next-entity = at-start .before .before in
+    let at-loop = at-next-entity .before in
+    let x = stands (at-start .start .given .1) (at-next-entity .next-entity .ensures) in
+    let y = stands (at-from .from .given .1) (at-next-entity2 .next-entity2 .ensures) in
     let h = c .before .before .compare-entity .ensures in
-    heads-greater _ _ _ _ _ _ (x .front) (y .front) h (c .enum-told3 .given .1) ∙ c .before .before .before .before .before .before .before .before .before .before .before .loop .inv .4
+    heads-greater _ _ _ _ _ _ (x .front) (y .front) h (c .enum-told3 .given .1) ∙ at-loop .loop .inv .4
 
 enum-told-4 : tie.Need-enum-told-4 Inv-loop μ-loop
 enum-told-4 c = search needs

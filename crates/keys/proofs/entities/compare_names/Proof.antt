@@ -66,14 +66,19 @@ enum-told-3 c = search needs
 
 returns : tie.Need-returns
 returns c =
-    let a = c .before .before .before .before .before .before .before .before .before .before .before .before .before .args in
-    let p = c .before .before .before .before .before .before .before .before .start .given .0 in
-    let q = c .before .before .before .before .from .given .0 in
-    let n = c .before .before .before .before .before .before .before .before .before .before .field .ensures in
-    let m = c .before .before .before .before .before .before .field2 .ensures in
+    let at-from = c .before .before .before .before in
+    let at-field2 = at-from .before .before in
+    let at-start = at-field2 .before .before in
+    let at-field = at-start .before .before in
+    let start = at-field .before .before .before in
+    let a = start .args in
+    let p = at-start .start .given .0 in
+    let q = at-from .from .given .0 in
+    let n = at-field .field .ensures in
+    let m = at-field2 .field2 .ensures in
     c .compare .ensures
     ∙ ap₂ compareBytes (lent-slice (a .a .now) (p .0) (p .0 + p .1 .0) (omega arith)) (lent-slice (a .b .now) (q .0) (q .0 + q .1 .0) (omega arith))
-    ∙ names-both _ _ _ _ (field-part _ _ _ (n .0) (c .before .before .before .before .before .before .before .before .start .given .1)) (field-part _ _ _ (m .0) (c .before .before .before .before .from .given .1))
+    ∙ names-both _ _ _ _ (field-part _ _ _ (n .0) (at-start .start .given .1)) (field-part _ _ _ (m .0) (at-from .from .given .1))
 
 returns-2 : tie.Need-returns-2
 returns-2 c =

@@ -30,9 +30,10 @@ loop-again c = (omega arith, half-more _ _ (c .before .loop .inv .1))
 
 returns : tie.Need-returns Inv-loop μ-loop
 returns c =
+    let start = c .before .before in
     let l = c .before .loop in
-    let e : l .i ≡ c .before .before .args .width = omega arith in
-    half-is _ _ (c .before .before .pre .0) (rw (← e) (l .inv .1))
+    let e : l .i ≡ start .args .width = omega arith in
+    half-is _ _ (start .pre .0) (rw (← e) (l .inv .1))
 
 pub half-of-spec : {M : Type 1} → statement M
 half-of-spec =

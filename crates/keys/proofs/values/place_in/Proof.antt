@@ -26,11 +26,12 @@ returns c =
 
 returns-2 : tie.Need-returns-2
 returns-2 c =
-    let a = c .before .before .before .before in
+    let at-number-at = c .before .before in
+    let a = at-number-at .before .before in
     let e = a .args .e .now in
-    let n = c .before .before .number-at .ensures in
+    let n = at-number-at .number-at .ensures in
     let areBytes = known-bytes e (λ i. omega (arith, c .before .before .before .shared-slice-known .given i)) in
-    let below : c .before .before .number-at .result < span (a .args .width) = rw n (number-below e areBytes (a .args .tag) (a .args .width) (a .pre .3)) in
+    let below : at-number-at .number-at .result < span (a .args .width) = rw n (number-below e areBytes (a .args .tag) (a .args .width) (a .pre .3)) in
     place-down _ _ _ (c .before .half-of .ensures) (value (a .args .tag) (runIn e)) (n, below) (c .if1 .left)
 
 pub place-in-spec : {M : Type 1} → statement M

@@ -34,7 +34,10 @@ same-length-2 : tie.Need-same-length-2
 same-length-2 c = search needs
 
 returns : tie.Need-returns
-returns c = rw (← c .before .before .before .before .before .before .before .before .before .take-snapshot .ensures .1, ← c .before .before .before .before .before .take-snapshot2 .ensures .1) (c .same-records .ensures)
+returns c =
+    let at-take-snapshot2 = c .before .before .before .before .before in
+    let at-take-snapshot = at-take-snapshot2 .before .before .before .before in
+    rw (← at-take-snapshot .take-snapshot .ensures .1, ← at-take-snapshot2 .take-snapshot2 .ensures .1) (c .same-records .ensures)
 
 pub same-snapshots-spec : {M : Type 1} → statement M
 same-snapshots-spec =

@@ -19,13 +19,19 @@ same-length : tie.Need-same-length
 same-length c = search needs
 
 returns : tie.Need-returns
-returns c = taken (c .before .before .before .before .before .before .before .before .before .args .image .now) (c .before .before .before .before .before .before .before .before .before .args .out .now) _ (c .before .before .before .before .before .snapshot .ensures .1) _ (ap replied (sym (c .before .n .given .1)) ∙ c .before .before .before .before .before .snapshot .ensures .0)
+returns c =
+    let at-snapshot = c .before .before .before .before .before in
+    let start = at-snapshot .before .before .before .before in
+    taken (start .args .image .now) (start .args .out .now) _ (at-snapshot .snapshot .ensures .1) _ (ap replied (sym (c .before .n .given .1)) ∙ at-snapshot .snapshot .ensures .0)
 
 same-length-2 : tie.Need-same-length-2
 same-length-2 c = search needs
 
 returns-2 : tie.Need-returns-2
-returns-2 c = not-taken (c .before .before .before .before .before .before .before .before .before .args .image .now) (c .before .before .before .before .before .before .before .before .before .args .out .now) _ (c .before .before .before .before .before .snapshot .ensures .1) _ (ap replied (sym (c .before .number .given .1)) ∙ c .before .before .before .before .before .snapshot .ensures .0)
+returns-2 c =
+    let at-snapshot = c .before .before .before .before .before in
+    let start = at-snapshot .before .before .before .before in
+    not-taken (start .args .image .now) (start .args .out .now) _ (at-snapshot .snapshot .ensures .1) _ (ap replied (sym (c .before .number .given .1)) ∙ at-snapshot .snapshot .ensures .0)
 
 pub take-snapshot-spec : {M : Type 1} → statement M
 take-snapshot-spec =
