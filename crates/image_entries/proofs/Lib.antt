@@ -5,4 +5,5 @@ pub mod ByKind
 pub mod InOrder
 pub mod Turns
 pub mod Walks
+pub mod Counted
 pub mod Tails

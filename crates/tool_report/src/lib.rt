@@ -1,4 +1,4 @@
-// What the program `inspect` says to exist in an image.
+// What the tool's report says to exist in an image.
 pub mod exists;
 mod quotas;
 mod topics;

@@ -1,4 +1,5 @@
 -- `lookup_scans::short_in` meets its contract. The invariant: what is counted and what the entries to come have is what all have.
+use mathlib.Core.Path.{_∙_}
 use Prim.Native.Nat.{_-_}
 use native.Mathlib.Omega.{arith}
 use borrow.Author.Needs.{needs}
@@ -7,18 +8,19 @@ use Rattle.model.specs.Number.{AreBytes}
 use Rattle.keys.proofs.Keys.{known-bytes}
 use Rattle.entries.proofs.Turns.{Stands, stands, ended, not-torn, turn-falls}
 use Rattle.image_entries.proofs.Turns.{forward, inside, is-record}
-use Rattle.lookup_scans.proofs.Counted.{Counted, counted-start, counted-all, room, counted-short, counted-other}
+use Rattle.image_entries.proofs.Counted.{Counted, counted-start, counted-all, room, counted-one, counted-other}
+use Rattle.lookup_scans.proofs.Counted.{short, short-count}
 use Rattle.lookup_scans.proofs.short_in.Statement.{statement}
 use Rattle.lookup_scans.proofs.short_in.Tie as tie
 
 abbrev Inv-loop : tie.InvT-loop
-Inv-loop s c₀ n₀ c n = Counted s (c .at) n
+Inv-loop s c₀ n₀ c n = Counted short s (c .at) n
 
 abbrev μ-loop : tie.MeasureT-loop
 μ-loop s c₀ n₀ c n = length s - c .at
 
 loop-holds : tie.Need-loop-holds Inv-loop μ-loop
-loop-holds c = counted-start _ (c .before .pre)
+loop-holds c = counted-start _ _ (c .before .pre)
 
 next-requires : tie.Need-next-requires Inv-loop μ-loop
 next-requires c κs = search needs
@@ -61,7 +63,7 @@ loop-less c = turn-falls _ _ _ _ _ (entry (c .before .before .before .before))
 loop-again : tie.Need-loop-again Inv-loop μ-loop
 loop-again c =
     let f = c .before .before .before .before in
-    counted-short (f .before .before .before .loop .inv) (entry f) (c .before .is-short .ensures) (c .if1 .taken)
+    counted-one (f .before .before .before .loop .inv) (entry f) (c .before .is-short .ensures) (c .if1 .taken)
 
 loop-less-2 : tie.Need-loop-less-2 Inv-loop μ-loop
 loop-less-2 c = turn-falls _ _ _ _ _ (entry (c .before .before .before .before))
@@ -86,7 +88,7 @@ returns-2 : tie.Need-returns-2 Inv-loop μ-loop
 returns-2 c =
     let n = c .before .before in
     let h = n .before .loop .inv in
-    counted-all h (ended _ (bytes-in n) _ (h .entries) (n .next .ensures) (c .enum-told2 .given .1))
+    counted-all h (ended _ (bytes-in n) _ (h .entries) (n .next .ensures) (c .enum-told2 .given .1)) .0 ∙ short-count _
 
 pub short-in-spec : {M : Type 1} → statement M
 short-in-spec =

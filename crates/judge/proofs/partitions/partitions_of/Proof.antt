@@ -1,4 +1,5 @@
 -- `partitions::partitions_of` meets its contract. The invariant: what is counted and what the entries to come have is what all have.
+use mathlib.Core.Path.{_∙_}
 use Prim.Native.Nat.{_-_}
 use native.Mathlib.Omega.{arith}
 use borrow.Author.Needs.{needs}
@@ -9,12 +10,13 @@ use Rattle.keys.specs.Keys.{runIn}
 use Rattle.keys.proofs.Keys.{known-bytes}
 use Rattle.entries.proofs.Turns.{Stands, stands, ended, not-torn, turn-falls}
 use Rattle.image_entries.proofs.Turns.{forward, inside, is-record}
-use Rattle.judge.proofs.Counted.{Counted, counted-start, counted-all, room, counted-one, counted-other}
+use Rattle.image_entries.proofs.Counted.{Counted, counted-start, counted-all, room, counted-one, counted-other}
+use Rattle.judge.proofs.Counted.{ofName, partition-count}
 use Rattle.judge.proofs.partitions.partitions_of.Statement.{statement}
 use Rattle.judge.proofs.partitions.partitions_of.Tie as tie
 
 abbrev Inv-loop : tie.InvT-loop
-Inv-loop s rec c₀ n₀ c n = Counted s (value 1 (runIn rec)) (c .at) n
+Inv-loop s rec c₀ n₀ c n = Counted (ofName (value 1 (runIn rec))) s (c .at) n
 
 abbrev μ-loop : tie.MeasureT-loop
 μ-loop s rec c₀ n₀ c n = length s - c .at
@@ -88,7 +90,8 @@ returns-2 : tie.Need-returns-2 Inv-loop μ-loop
 returns-2 c =
     let n = c .before .before in
     let h = n .before .loop .inv in
-    counted-all h (ended _ (bytes-in n) _ (h .entries) (n .next .ensures) (c .enum-told2 .given .1))
+    let all = counted-all h (ended _ (bytes-in n) _ (h .entries) (n .next .ensures) (c .enum-told2 .given .1)) in
+    (all .0 ∙ partition-count _ _, all .1)
 
 pub partitions-of-spec : {M : Type 1} → statement M
 partitions-of-spec =
