@@ -6,7 +6,7 @@ use native.Mathlib.Nat.{add-zero, add-suc}
 use native.Mathlib.Numerals.{add-one}
 use native.Mathlib.Omega.{arith}
 use lib.ListN.{length, getD, set, take, drop, replicate, length-drop, take-append-drop, List·getD-append}
-use lib.Seq.{paste, paste-suc, drop-paste, take-length, drop-length, take-suc, drop-cons, set-at, getD-drop, getD-take, length-take-le}
+use lib.Seq.{paste, paste-suc, drop-paste, take-length, drop-length, take-suc, drop-cons, set-at, drop-drop, getD-drop, getD-take, length-take-le}
 use Rattle.model.specs.Number.{Bytes}
 
 -- from the front
@@ -16,6 +16,13 @@ paste-step w at s i h k = rw add-one (paste-suc w at s i 0 h k)
 
 pub paste-all : (w : Bytes) (at : ℕ) (s : Bytes) (i : ℕ) → i ≡ length s → paste w at s i ≡ take at w ++ s ++ drop (at + length s) w
 paste-all w at s i e = rw (e, take-length)
+
+-- what is stored where it stands already changes nothing
+pub paste-same : (w : Bytes) (to from n : ℕ) → to ≡ from → w ≡ paste w to (drop from w) n
+paste-same w to from n e = rw e (stays from)
+  where
+    stays : (at : ℕ) → w ≡ paste w at (drop at w) n
+    stays at = sym (rw (append-assoc, ← drop-drop n at w, take-append-drop, take-append-drop))
 
 -- what stands past the part that is stored
 paste-past : (w : Bytes) (at : ℕ) (s : Bytes) (i k : ℕ) → at ≤ length w → i ≤ length s → at + i ≤ k → getD (paste w at s i) k 0 ≡ getD w k 0

@@ -142,7 +142,10 @@ pub fn shift(w: &mut [u8], from: usize, to: usize, n: usize)
     requires { ⌜ (from + n ≤ length (now w)) × (to + n ≤ length (now w)) ⌝ }
     ensures { λ _. ⌜ now (w .exit) ≡ paste (now (w .entry)) to (drop from (now (w .entry))) n ⌝ }
 {
-    if to <= from {
+    if to == from {
+        return;
+    }
+    if to < from {
         shift_down(w, from, to, n);
     } else {
         shift_up(w, from, to, n);
