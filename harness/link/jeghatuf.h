@@ -102,7 +102,7 @@ uint64_t jeghatuf_throttle(const uint8_t *image, size_t image_len, uint64_t node
 /* Puts the features epoch into value[0], an int64_t by its bits. The value is 0. */
 uint64_t jeghatuf_features_epoch(const uint8_t *image, size_t image_len, uint64_t *value, size_t value_len);
 
-/* How many partitions have fewer replicas in sync than replicas. */
+/* How many partitions have fewer nodes in their ISR than replicas that are not being added. */
 uint64_t jeghatuf_short_count(const uint8_t *image, size_t image_len);
 
 #ifdef __cplusplus

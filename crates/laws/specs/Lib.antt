@@ -9,3 +9,4 @@ pub mod Ids
 pub mod Ranks
 pub mod Refused
 pub mod Freeze
+pub mod Nodes

@@ -6,6 +6,7 @@ use find::emit_place;
 use image_ids::names;
 use keys::value_at;
 use model::answers::Answer;
+use nodes::outside_in;
 ghost use mathlib.Core.Path.{_≡_};
 ghost use mathlib.Core.List.{map};
 ghost use Rattle.model.specs.Image.{entryOf};
@@ -16,8 +17,8 @@ ghost use Rattle.entries.specs.Entries.{recordsIn, Entries, IsRecord, recordIn}
 ghost use Rattle.find.specs.Found.{AllKept};
 ghost use Rattle.lookup_scans.specs.Scans.{NamedAt};
 
-// Whether an entry is a partition with a shorter ISR than replicas. Partitions are of kind 2; the fourth field lists the replicas and the fifth
-// the ISR, eight bytes a node.
+// Whether an entry is a partition whose ISR is smaller than the number of its replicas that are not being added. Partitions are of kind 2; the
+// fourth field lists the replicas, the fifth the ISR and the seventh the adding replicas, eight bytes a node.
 fn is_short(e: &[u8]) -> bool
     requires { ⌜ IsRecord (now e) ⌝ }
     ensures { λ r. ⌜ r ≡ isShort (entryOf (recordIn (now (e .entry)))) ⌝ }
@@ -27,7 +28,12 @@ fn is_short(e: &[u8]) -> bool
     }
     let replicas = value_at(e, 4);
     let isr = value_at(e, 5);
-    (isr.end - isr.start) / 8 < (replicas.end - replicas.start) / 8
+    let adding = value_at(e, 7);
+    let first = replicas.start;
+    let last = replicas.end;
+    let from = adding.start;
+    let to = adding.end;
+    (isr.end - isr.start) / 8 < outside_in(&e[first..last], &e[from..to])
 }
 
 // How many partitions are short.

@@ -30,12 +30,15 @@
 --   steps, answers, the uncut history, the premises ....... History.Step, answer, uncut, holds
 --   demand 3 .............................................. History.CutsUnseen, CutBecomesRestored, CutAnywhere
 --   images stay images; each premise is needed ............ History.ReachedIsImage, RestoreLeavesImage, PremiseNeeded
+-- 02's requests
+--   1, short leaves the adding replicas out ............... Nodes.outside, Lookup.expected
 pub mod Choice
 pub mod Number
 pub mod Text
 pub mod Run
 pub mod Order
 pub mod Kind
+pub mod Nodes
 pub mod Shape
 pub mod Reply
 pub mod Answers

@@ -9,13 +9,14 @@ use Rattle.model.specs.Choice.{given, orElse}
 use Rattle.model.specs.Number.{Bytes, bytes, span, half, isNegative}
 use Rattle.model.specs.Order.{Key}
 use Rattle.model.specs.Run.{Run, field}
+use Rattle.model.specs.Nodes.{nodesOf, outside}
 use Rattle.model.specs.Shape.{stringLimit, textFault}
 use Rattle.model.specs.Record.{Rec}
 use Rattle.model.specs.Key.{topicKey, partitionKey, nodeKey, configKey, freezeKey}
 use Rattle.model.specs.Map.{get}
 use Rattle.model.specs.Contents.{Entry, topic, part, plain, returned, key, namesId}
 use Rattle.model.specs.Image.{isImage, contentsOf}
-use Rattle.model.specs.Move.{runAt, replicas, isr, nodeCount}
+use Rattle.model.specs.Move.{runAt, replicas, isr, adding, nodeCount}
 use Rattle.model.specs.Snapshot.{emit}
 use Rattle.model.specs.Reply.{Reply, accepted, refused, Ended, unchanged}
 use Rattle.model.specs.declared.Kind.the-variants.{Partition, BrokerRegistration}
@@ -59,9 +60,9 @@ brokerOf image node out =
 unfoldable pub epochOf : Bytes → Reply
 epochOf image = cond (isImage image) (accepted (contentsOf image .fixed .epoch ∷ [])) (refused 1)
 
--- "a partition is short when its ISR is shorter than its replicas; the short ones are counted"
+-- "a partition is short when its ISR is smaller than the number of its replicas that are not among the adding replicas"
 abbrev pub expected : Run → ℕ
-expected r = nodeCount (replicas r)
+expected r = outside (nodesOf (adding r)) (nodesOf (replicas r))
 
 unfoldable pub isShort : Entry → Bool
 isShort (topic name id c f n) = false

@@ -78,6 +78,9 @@ replicas r = value 4 r
 abbrev pub isr : Run → Bytes
 isr r = value 5 r
 
+abbrev pub adding : Run → Bytes
+adding r = value 7 r
+
 abbrev pub directories : Run → Bytes
 directories r = value 9 r
 

@@ -122,7 +122,7 @@ fn say_entries(image: &[u8], records: &[u8]) -> Seen {
 // How many partitions are short.
 fn say_short(image: &[u8]) -> bool {
     match lookup::short_count(image) {
-        Value::Is(n) => say_of(b", with fewer in-sync replicas than replicas: ", n),
+        Value::Is(n) => say_of(b", short of in-sync replicas: ", n),
         Value::Refused(number) => true,
     }
 }

@@ -2,7 +2,7 @@
 
 use std::collections::{BTreeMap, BTreeSet};
 
-use krabka_metadata::{EntityKey, MetadataImage, MetadataRecord, NodeId};
+use krabka_metadata::{EntityKey, MetadataImage, MetadataRecord, NodeId, PartitionRecord};
 use uuid::Uuid;
 
 use crate::order;
@@ -22,7 +22,8 @@ pub struct Observed {
     pub empty_quotas: BTreeSet<EntityKey>,
     pub epoch: i64,
     pub kraft: u16,
-    /// How many partitions have an ISR shorter than their replicas.
+    /// How many partitions have an ISR smaller than the number of their
+    /// replicas that are not being added.
     pub short: usize,
 }
 
@@ -114,9 +115,17 @@ fn empty_quotas(image: &MetadataImage) -> BTreeSet<EntityKey> {
         .collect()
 }
 
-fn short(image: &MetadataImage) -> usize {
+/// How many partitions are short.
+pub fn short(image: &MetadataImage) -> usize {
     image
         .all_partitions()
-        .filter(|partition| partition.isr.len() < partition.replicas.len())
+        .filter(|partition| partition.isr.len() < expected(partition))
         .count()
+}
+
+/// The slots of the replicas whose node is not among the adding ones.
+fn expected(partition: &PartitionRecord) -> usize {
+    let adding = &partition.adding_replicas;
+    let standing = |node: &&NodeId| !adding.contains(*node);
+    partition.replicas.iter().filter(standing).count()
 }

@@ -3,6 +3,7 @@
 use std::hint::black_box;
 
 use krabka_metadata::{MetadataImage, NodeId, ThrottleKind};
+use oracle::observe::short;
 
 use super::rows::Timed;
 use crate::images::Full;
@@ -75,25 +76,23 @@ fn counts(full: &Full) -> Vec<Timed> {
             || features_epoch(black_box(bytes), &mut value).expect("an image"),
             || black_box(image).finalized_features_epoch(),
         ),
-        Timed::of(
-            "short count",
-            "`all_partitions`, counted",
-            || found(short_count(black_box(bytes))),
-            || short(black_box(image)),
-        ),
+        shorts("short count", bytes, image),
     ]
 }
 
-/// The answer is there: bytes written, a rate, or short partitions.
+/// How many partitions are short.
+pub fn shorts(name: &'static str, bytes: &[u8], image: &MetadataImage) -> Timed {
+    Timed::of(
+        name,
+        "`all_partitions`, counted",
+        || short_count(black_box(bytes)).expect("an image"),
+        || short(black_box(image)),
+    )
+}
+
+/// The answer is there: bytes written, or a rate.
 fn found(answer: Result<usize, u8>) -> usize {
     let number = answer.expect("an image");
     assert!(number > 0, "something that is stored");
     number
-}
-
-fn short(image: &MetadataImage) -> usize {
-    let partitions = image.all_partitions();
-    partitions
-        .filter(|p| p.isr.len() < p.replicas.len())
-        .count()
 }

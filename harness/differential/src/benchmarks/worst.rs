@@ -1,15 +1,15 @@
 //! What was found to take longest at the largest capacity, beside the same
 //! operation on the plain full image.
 
-use krabka_metadata::{ClientQuotaRecord, MetadataRecord, QuotaEntity};
-use oracle::facts::build::topic;
+use krabka_metadata::{ClientQuotaRecord, MetadataRecord, PartitionRecord, QuotaEntity};
+use oracle::facts::build::{nodes, partition, topic};
 use oracle::image::image;
 use wire::encoded_all;
 
 use super::restarts::{decoded, restored, snapshot};
 use super::rows::Timed;
 use super::times::Times;
-use super::{SIZES, changes};
+use super::{SIZES, changes, lookups};
 use crate::images::{Full, Subject};
 
 const CAPACITY: usize = SIZES[SIZES.len() - 1];
@@ -17,6 +17,10 @@ const CAPACITY: usize = SIZES[SIZES.len() - 1];
 const TOPICS: u64 = 1_391;
 /// As many empty quota groups of one entity with a two-byte type.
 const GROUPS: u64 = 4_672;
+/// As many partitions of four replicas, one of them being added, and as many of
+/// 64 replicas and 64 other nodes being added.
+const MOVING: i32 = 695;
+const WIDE: i32 = 60;
 /// The printable ASCII characters that are no space, and the first of them.
 const CHARACTERS: u64 = 94;
 const FIRST: u64 = 33;
@@ -66,7 +70,44 @@ pub fn measure(full: &Full) -> Vec<Worst> {
             "Restore",
             restored(CAPACITY, "Restore, 4,672 empty quota groups", &groups),
         ),
+        Worst::of(
+            "short count",
+            moving(
+                "short count, 695 partitions, one of four replicas being added",
+                MOVING,
+                &[1, 2, 3, 4],
+                &[4],
+            ),
+        ),
+        Worst::of(
+            "short count",
+            moving(
+                "short count, 60 partitions of 64 replicas, 64 other nodes being added",
+                WIDE,
+                &all(1, 64),
+                &all(65, 128),
+            ),
+        ),
     ]
+}
+
+/// The short count of partitions that are on the move.
+fn moving(name: &'static str, count: i32, replicas: &[u64], adding: &[u64]) -> Timed {
+    let record = |number| {
+        MetadataRecord::V1Partition(PartitionRecord {
+            adding_replicas: nodes(adding),
+            isr: Vec::new(),
+            ..partition("p", number, replicas)
+        })
+    };
+    let records: Vec<_> = (0..count).map(record).collect();
+    let subject = Subject::of(&records);
+    let bytes = image(&subject.observed, CAPACITY).expect("partitions that fit");
+    lookups::shorts(name, &bytes, &subject.image)
+}
+
+fn all(first: u64, last: u64) -> Vec<u64> {
+    (first..=last).collect()
 }
 
 /// All ids end in the same two bytes, so that each is sought among those

@@ -173,7 +173,8 @@ pub fn features_epoch(image: &[u8], value: &mut [u64]) -> Result<usize, u8> {
     })
 }
 
-/// How many partitions have an ISR shorter than their replicas.
+/// How many partitions have an ISR smaller than the number of their replicas
+/// that are not being added.
 pub fn short_count(image: &[u8]) -> Result<usize, u8> {
     // SAFETY: the pointer and the length are a slice's.
     unpacked(unsafe { jeghatuf_short_count(image.as_ptr(), image.len()) })

@@ -18,6 +18,7 @@ pub fn say(facts: &mut Facts) {
     recovery(facts);
     unknown_partitions(facts);
     short(facts);
+    short_on_the_move(facts);
     downgrade(facts);
 }
 
@@ -143,6 +144,40 @@ fn short(facts: &mut Facts) {
         "short of ISRs of 1, 2, 0 and 3 nodes for 2 replicas",
         observed.short,
     );
+}
+
+/// Whether a partition is short while replicas are added to it: its replicas,
+/// the adding ones, the ISR.
+fn short_on_the_move(facts: &mut Facts) {
+    let cases: [(&str, &[u64], &[u64], &[u64]); 9] = [
+        (
+            "one added, the others in sync",
+            &[1, 2, 3, 4],
+            &[4],
+            &[1, 2, 3],
+        ),
+        ("one added, another lags", &[1, 2, 3, 4], &[4], &[1, 2]),
+        (
+            "an adding node that is no replica",
+            &[1, 2, 3],
+            &[5],
+            &[1, 2],
+        ),
+        ("an adding node listed twice", &[1, 2, 3], &[3, 3], &[1, 2]),
+        ("all added, none in sync", &[1, 2], &[2, 1], &[]),
+        ("all added, one in sync", &[1, 2], &[1, 2], &[1]),
+        ("no replicas, one added", &[], &[1], &[]),
+        ("more in sync than replicas", &[1, 2], &[2], &[1, 2, 3]),
+        ("in sync but added alone", &[1, 2, 3], &[3], &[3, 4]),
+    ];
+    for (what, replicas, adding, isr) in cases {
+        let mut stored = partition("p", 0, replicas);
+        stored.adding_replicas = nodes(adding);
+        stored.isr = nodes(isr);
+        let image = applied(&[MetadataRecord::V1Partition(stored)]);
+        let observed = observe(&image, &Witness::default());
+        facts.say(format!("short, {what}"), observed.short == 1);
+    }
 }
 
 /// One record for each slot below both lengths that is not `MIGRATING`.
