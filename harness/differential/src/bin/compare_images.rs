@@ -5,7 +5,8 @@
 use std::process::ExitCode;
 
 use differential::images::{
-    Tally, compare_cases, compare_history, compare_listing, compare_open, compare_random,
+    Tally, compare_cases, compare_history, compare_listing, compare_moves, compare_open,
+    compare_random,
 };
 use differential::{Asked, Compared, Comparison};
 
@@ -37,6 +38,7 @@ fn compare(tally: &mut Tally, asked: &Asked) -> Compared {
     compare_open(tally, asked.seed)?;
     compare_cases(tally)?;
     compare_listing(tally)?;
+    compare_moves(tally)?;
     asked.each(|seed| {
         compare_history(tally, seed)?;
         (0..RANDOM).try_for_each(|draw| compare_random(tally, seed * RANDOM + draw))
