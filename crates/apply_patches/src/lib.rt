@@ -3,6 +3,7 @@ use apply_work::Bounds;
 use entries::Cursor;
 use entries::Step;
 use keys::value_at;
+use model::kinds::TOPIC;
 ghost use mathlib.Core.Path.{_≡_};
 ghost use mathlib.Core.List.{map};
 ghost use Prim.Native.Nat.{_≤_, _<_};
@@ -18,7 +19,7 @@ fn is_topic_with(e: &[u8], tag: usize, v: &[u8]) -> bool
     requires { ⌜ IsRecord (now e) ⌝ }
     ensures { λ r. ⌜ r ≡ isTopicWith tag (now (v .entry)) (recordIn (now (e .entry))) ⌝ }
 {
-    if e[0] != 1 {
+    if e[0] != TOPIC {
         return false;
     }
     let p = value_at(e, tag);

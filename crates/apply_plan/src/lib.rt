@@ -19,8 +19,7 @@ use keys::node_at;
 use keys::value_at;
 use members::member;
 use members::quota;
-use model::kinds::BREAK_GLASS_PROPOSAL;
-use model::kinds::CONTROLLER_REGISTRATION;
+use model::kinds;
 use model::refusals::UNKNOWN_KIND;
 use states::add_offset;
 use states::with_bounds;
@@ -60,33 +59,36 @@ pub fn make(w: &mut [u8], a: &mut [u8], b: &mut [u8], state: State, rec: &[u8]) 
 {
     let bounds = state.bounds;
     match rec[0] {
-        1 => with_bounds(state, put_topic(w, a, bounds, rec)),
-        2 => with_bounds(state, put_partition(w, bounds, rec)),
-        3 => with_bounds(state, set(w, bounds, rec)),
-        4 => with_bounds(state, delete_topic(w, bounds, rec)),
-        5 => with_bounds(state, set(w, bounds, rec)),
-        6 => with_bounds(state, member(w, a, bounds, rec)),
-        7 => with_bounds(state, quota(w, a, b, bounds, rec)),
-        8 => with_bounds(state, producers(w, bounds, rec)),
-        9 => with_bounds(state, unregister(w, bounds, rec)),
-        10 => with_kraft(state, rec),
-        11 => with_level(state, set(w, bounds, rec)),
-        12 => with_bounds(state, set(w, bounds, rec)),
-        13 => with_epoch(state, rec),
-        14 => with_bounds(state, assign(w, a, bounds, rec)),
-        15 => add_offset(w, a, state, rec),
-        16 => with_bounds(state, set(w, bounds, rec)),
-        17 => with_bounds(state, set(w, bounds, rec)),
-        18 => with_bounds(state, set(w, bounds, rec)),
-        19 => with_bounds(state, set(w, bounds, rec)),
-        20 => with_bounds(state, erase_first(w, bounds, BREAK_GLASS_PROPOSAL, rec)),
-        21 => with_bounds(state, set(w, bounds, rec)),
-        22 => with_bounds(state, set(w, bounds, rec)),
-        23 => with_bounds(state, update(w, a, bounds, rec)),
-        24 => with_bounds(state, change_broker(w, a, bounds, rec)),
-        25 => with_bounds(
+        kinds::TOPIC => with_bounds(state, put_topic(w, a, bounds, rec)),
+        kinds::PARTITION => with_bounds(state, put_partition(w, bounds, rec)),
+        kinds::BROKER_REGISTRATION => with_bounds(state, set(w, bounds, rec)),
+        kinds::DELETE_TOPIC => with_bounds(state, delete_topic(w, bounds, rec)),
+        kinds::TOPIC_CONFIG => with_bounds(state, set(w, bounds, rec)),
+        kinds::BROKER_CONFIG => with_bounds(state, member(w, a, bounds, rec)),
+        kinds::CLIENT_QUOTA => with_bounds(state, quota(w, a, b, bounds, rec)),
+        kinds::PRODUCER_IDS => with_bounds(state, producers(w, bounds, rec)),
+        kinds::UNREGISTER_BROKER => with_bounds(state, unregister(w, bounds, rec)),
+        kinds::KRAFT_VERSION => with_kraft(state, rec),
+        kinds::FEATURE_LEVEL => with_level(state, set(w, bounds, rec)),
+        kinds::CLIENT_METRICS_CONFIG => with_bounds(state, set(w, bounds, rec)),
+        kinds::FEATURES_EPOCH => with_epoch(state, rec),
+        kinds::PARTITION_DIR_ASSIGNMENT => with_bounds(state, assign(w, a, bounds, rec)),
+        kinds::PARTITION_OFFSET_ADVANCE => add_offset(w, a, state, rec),
+        kinds::GROUP_CONFIG => with_bounds(state, set(w, bounds, rec)),
+        kinds::CONTROLLER_REGISTRATION => with_bounds(state, set(w, bounds, rec)),
+        kinds::TOPIC_FREEZE => with_bounds(state, set(w, bounds, rec)),
+        kinds::BREAK_GLASS_PROPOSAL => with_bounds(state, set(w, bounds, rec)),
+        kinds::DELETE_BREAK_GLASS_PROPOSAL => with_bounds(
             state,
-            erase_node(w, bounds, CONTROLLER_REGISTRATION, node_at(rec, 1)),
+            erase_first(w, bounds, kinds::BREAK_GLASS_PROPOSAL, rec),
+        ),
+        kinds::PARTITION_ELR => with_bounds(state, set(w, bounds, rec)),
+        kinds::PARTITION_RECOVERY => with_bounds(state, set(w, bounds, rec)),
+        kinds::PARTITION_UPDATE => with_bounds(state, update(w, a, bounds, rec)),
+        kinds::BROKER_REGISTRATION_CHANGE => with_bounds(state, change_broker(w, a, bounds, rec)),
+        kinds::UNREGISTER_CONTROLLER => with_bounds(
+            state,
+            erase_node(w, bounds, kinds::CONTROLLER_REGISTRATION, node_at(rec, 1)),
         ),
         0 | 26..=255 => Tried::Refused(UNKNOWN_KIND),
     }

@@ -1,5 +1,6 @@
 // A stored entry as the record that it is returned as: its own bytes, but of a topic without its last field.
 use model::answers::Answer;
+use model::kinds::TOPIC;
 use model::refusals::TOO_SHORT;
 use records::put_head;
 ghost use mathlib.Core.Path.{_≡_};
@@ -18,7 +19,7 @@ pub fn returned_size(e: &[u8]) -> usize
     requires { ⌜ Entire (now e) ⌝ }
     ensures { λ r. ⌜ r ≡ returnedSize (now (e .entry)) ⌝ }
 {
-    if e[0] == 1 {
+    if e[0] == TOPIC {
         return e.len() - FLAG_SIZE;
     }
     e.len()
@@ -29,9 +30,9 @@ pub fn put_returned(out: &mut [u8], at: usize, e: &[u8])
     requires { ⌜ Entire (now e) × (at + returnedSize (now e) ≤ length (now out)) ⌝ }
     ensures { λ _. ⌜ now (out .exit) ≡ putAt (now (out .entry)) at (returnedBytes (now (e .entry))) ⌝ }
 {
-    if e[0] == 1 {
+    if e[0] == TOPIC {
         let end = e.len() - FLAG_SIZE;
-        put_head(out, at, 1, end - 3);
+        put_head(out, at, TOPIC, end - 3);
         wire::copy(out, at + 3, &e[3..end]);
         return;
     }

@@ -12,6 +12,7 @@ use image_groups::groups_apart;
 use image_ids::ids_apart;
 use image_order::all_read;
 use image_order::ascends;
+use model::kinds;
 use shapes::all_rows;
 ghost use mathlib.Core.Path.{_≡_};
 ghost use mathlib.Core.Bool.{true, _&&_};
@@ -67,7 +68,7 @@ fn has_producer_ids(s: &[u8]) -> bool
     requires { ⌜ Entries (now s) ⌝ }
     ensures { λ r. ⌜ r ≡ isSome (get recordKey producerKey (recordsIn (now (s .entry)))) ⌝ }
 {
-    let p = seek(s, b"\x08\x00\x00");
+    let p = seek(s, &[kinds::PRODUCER_IDS, 0, 0]);
     p.at < p.end
 }
 

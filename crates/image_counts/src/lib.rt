@@ -5,6 +5,7 @@ use keys::number_at;
 use keys::rank_of;
 use keys::value_at;
 use model::Order;
+use model::kinds::TOPIC;
 ghost use mathlib.Core.Path.{_≡_};
 ghost use mathlib.Core.Bool.{true};
 ghost use Prim.Native.Nat.{_≤_};
@@ -102,7 +103,7 @@ pub fn counts_fit(s: &[u8]) -> bool
         match c.next(s) {
             Step::Entry(start, end, next) => {
                 c = next;
-                if s[start] != 1 {
+                if s[start] != TOPIC {
                     continue;
                 }
                 let n = count_for(&s[start..end], &s[from..]);

@@ -3,6 +3,7 @@ use crate::types::types_in_order;
 use crate::values::has;
 use crate::values::is_empty;
 use crate::values::value_number;
+use model::kinds;
 ghost use mathlib.Core.Path.{_≡_};
 ghost use mathlib.Core.Bool.{_&&_, not};
 ghost use lib.Dec.{ltb};
@@ -18,7 +19,7 @@ pub fn is_bare(e: &[u8]) -> bool
     ensures { λ r. ⌜ r ≡ isBare (recordIn (now (e .entry))) ⌝ }
 {
     match e[0] {
-        6 | 7 => !has(e, 3),
+        kinds::BROKER_CONFIG | kinds::CLIENT_QUOTA => !has(e, 3),
         _ => false,
     }
 }
@@ -34,7 +35,7 @@ pub fn is_group(e: &[u8]) -> bool
     if !is_empty(e, 2) {
         return false;
     }
-    if e[0] == 6 {
+    if e[0] == kinds::BROKER_CONFIG {
         return true;
     }
     types_in_order(e)
@@ -45,7 +46,7 @@ fn flag_reads(e: &[u8]) -> bool
     requires { ⌜ IsRecord (now e) ⌝ }
     ensures { λ r. ⌜ r ≡ flagReads (recordIn (now (e .entry))) ⌝ }
 {
-    if e[0] != 1 {
+    if e[0] != kinds::TOPIC {
         return true;
     }
     value_number(e, 5, 5) <= 1
@@ -68,31 +69,31 @@ pub fn is_storable(e: &[u8]) -> bool
     ensures { λ r. ⌜ r ≡ storableRecord (recordIn (now (e .entry))) ⌝ }
 {
     match e[0] {
-        1 => true,
-        2 => true,
-        3 => true,
-        4 => false,
-        5 => has(e, 2),
-        6 => has(e, 3),
-        7 => has(e, 3) && types_in_order(e),
-        8 => is_positive(value_number(e, 3, 8)),
-        9 => false,
-        10 => false,
-        11 => value_number(e, 2, 2) != 0,
-        12 => has(e, 2),
-        13 => false,
-        14 => false,
-        15 => true,
-        16 => has(e, 2),
-        17 => true,
-        18 => value_number(e, 3, 1) == 1,
-        19 => true,
-        20 => false,
-        21 => !is_empty(e, 3) || !is_empty(e, 4),
-        22 => value_number(e, 3, 1) != 0,
-        23 => false,
-        24 => false,
-        25 => false,
+        kinds::TOPIC => true,
+        kinds::PARTITION => true,
+        kinds::BROKER_REGISTRATION => true,
+        kinds::DELETE_TOPIC => false,
+        kinds::TOPIC_CONFIG => has(e, 2),
+        kinds::BROKER_CONFIG => has(e, 3),
+        kinds::CLIENT_QUOTA => has(e, 3) && types_in_order(e),
+        kinds::PRODUCER_IDS => is_positive(value_number(e, 3, 8)),
+        kinds::UNREGISTER_BROKER => false,
+        kinds::KRAFT_VERSION => false,
+        kinds::FEATURE_LEVEL => value_number(e, 2, 2) != 0,
+        kinds::CLIENT_METRICS_CONFIG => has(e, 2),
+        kinds::FEATURES_EPOCH => false,
+        kinds::PARTITION_DIR_ASSIGNMENT => false,
+        kinds::PARTITION_OFFSET_ADVANCE => true,
+        kinds::GROUP_CONFIG => has(e, 2),
+        kinds::CONTROLLER_REGISTRATION => true,
+        kinds::TOPIC_FREEZE => value_number(e, 3, 1) == 1,
+        kinds::BREAK_GLASS_PROPOSAL => true,
+        kinds::DELETE_BREAK_GLASS_PROPOSAL => false,
+        kinds::PARTITION_ELR => !is_empty(e, 3) || !is_empty(e, 4),
+        kinds::PARTITION_RECOVERY => value_number(e, 3, 1) != 0,
+        kinds::PARTITION_UPDATE => false,
+        kinds::BROKER_REGISTRATION_CHANGE => false,
+        kinds::UNREGISTER_CONTROLLER => false,
         0 | 26..=255 => false,
     }
 }

@@ -4,6 +4,7 @@ use entries::Cursor;
 use entries::Step;
 use keys::number_at;
 use keys::value_at;
+use model::kinds::TOPIC;
 ghost use mathlib.Core.Path.{_≡_};
 ghost use mathlib.Core.Bool.{true, not};
 ghost use mathlib.Core.List.{map};
@@ -20,7 +21,7 @@ fn is_named(e: &[u8]) -> bool
     requires { ⌜ IsRecord (now e) ⌝ }
     ensures { λ r. ⌜ r ≡ isNamed (recordIn (now (e .entry))) ⌝ }
 {
-    if e[0] != 1 {
+    if e[0] != TOPIC {
         return false;
     }
     number_at(e, 5, 5) == 1

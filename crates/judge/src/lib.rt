@@ -11,6 +11,7 @@ use brokers::unknown_controller;
 use find::at_epoch;
 use keys::node_at;
 use keys::value_at;
+use model::kinds;
 use model::refusals::EMPTY_SCOPE;
 use model::refusals::STALE_CHANGE;
 use model::refusals::STALE_UNREGISTRATION;
@@ -47,31 +48,34 @@ pub fn judge(s: &[u8], rec: &[u8]) -> u8
     ensures { λ r. ⌜ r ≡ judgeOf (loggedIn (now (rec .entry))) (map entryOf (recordsIn (now (s .entry)))) ⌝ }
 {
     match rec[0] {
-        1 => topic_exists(s, rec),
-        2 => unknown_topic(s, rec),
-        3 => 0,
-        4 => unknown_topic(s, rec),
-        5 => unknown_topic(s, rec),
-        6 => 0,
-        7 => 0,
-        8 => producer_fault(s, rec),
-        9 => unless(at_epoch(s, node_at(rec, 1), rec), STALE_UNREGISTRATION),
-        10 => 0,
-        11 => 0,
-        12 => 0,
-        13 => 0,
-        14 => 0,
-        15 => 0,
-        16 => 0,
-        17 => 0,
-        18 => unless(!empty_scope(rec), EMPTY_SCOPE),
-        19 => proposal_fault(s, rec),
-        20 => 0,
-        21 => unknown_partition(s, rec),
-        22 => unknown_partition(s, rec),
-        23 => unknown_nested(s, rec),
-        24 => unless(at_epoch(s, node_at(rec, 1), rec), STALE_CHANGE),
-        25 => unknown_controller(s, node_at(rec, 1)),
+        kinds::TOPIC => topic_exists(s, rec),
+        kinds::PARTITION => unknown_topic(s, rec),
+        kinds::BROKER_REGISTRATION => 0,
+        kinds::DELETE_TOPIC => unknown_topic(s, rec),
+        kinds::TOPIC_CONFIG => unknown_topic(s, rec),
+        kinds::BROKER_CONFIG => 0,
+        kinds::CLIENT_QUOTA => 0,
+        kinds::PRODUCER_IDS => producer_fault(s, rec),
+        kinds::UNREGISTER_BROKER => unless(at_epoch(s, node_at(rec, 1), rec), STALE_UNREGISTRATION),
+        kinds::KRAFT_VERSION => 0,
+        kinds::FEATURE_LEVEL => 0,
+        kinds::CLIENT_METRICS_CONFIG => 0,
+        kinds::FEATURES_EPOCH => 0,
+        kinds::PARTITION_DIR_ASSIGNMENT => 0,
+        kinds::PARTITION_OFFSET_ADVANCE => 0,
+        kinds::GROUP_CONFIG => 0,
+        kinds::CONTROLLER_REGISTRATION => 0,
+        kinds::TOPIC_FREEZE => unless(!empty_scope(rec), EMPTY_SCOPE),
+        kinds::BREAK_GLASS_PROPOSAL => proposal_fault(s, rec),
+        kinds::DELETE_BREAK_GLASS_PROPOSAL => 0,
+        kinds::PARTITION_ELR => unknown_partition(s, rec),
+        kinds::PARTITION_RECOVERY => unknown_partition(s, rec),
+        kinds::PARTITION_UPDATE => unknown_nested(s, rec),
+        kinds::BROKER_REGISTRATION_CHANGE => unless(
+            at_epoch(s, node_at(rec, 1), rec),
+            STALE_CHANGE,
+        ),
+        kinds::UNREGISTER_CONTROLLER => unknown_controller(s, node_at(rec, 1)),
         0 | 26..=255 => UNKNOWN_KIND,
     }
 }

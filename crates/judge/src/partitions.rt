@@ -2,6 +2,7 @@
 use entries::Cursor;
 use entries::Step;
 use keys::same_value;
+use model::kinds::PARTITION;
 ghost use mathlib.Core.Path.{_≡_};
 ghost use Prim.Native.Nat.{_*_, _≤_};
 ghost use lib.ListN.{length};
@@ -16,7 +17,7 @@ fn is_partition_of(e: &[u8], rec: &[u8]) -> bool
     requires { ⌜ IsRecord (now e) × (3 ≤ length (now rec)) ⌝ }
     ensures { λ r. ⌜ r ≡ ofTopic (value 1 (runIn (now (rec .entry)))) (recordKey (recordIn (now (e .entry)))) ⌝ }
 {
-    if e[0] != 2 {
+    if e[0] != PARTITION {
         return false;
     }
     same_value(e, rec, 1)

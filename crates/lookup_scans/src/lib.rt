@@ -6,6 +6,7 @@ use find::emit_place;
 use image_ids::names;
 use keys::value_at;
 use model::answers::Answer;
+use model::kinds::PARTITION;
 use nodes::outside_in;
 ghost use mathlib.Core.Path.{_≡_};
 ghost use mathlib.Core.List.{map};
@@ -23,7 +24,7 @@ fn is_short(e: &[u8]) -> bool
     requires { ⌜ IsRecord (now e) ⌝ }
     ensures { λ r. ⌜ r ≡ isShort (entryOf (recordIn (now (e .entry)))) ⌝ }
 {
-    if e[0] != 2 {
+    if e[0] != PARTITION {
         return false;
     }
     let replicas = value_at(e, 4);

@@ -2,6 +2,7 @@
 use fields::Cursor;
 use model::Kind;
 use model::answers::Answer;
+use model::kinds;
 use model::refusals::PAST_THE_END;
 use model::refusals::TOO_SHORT;
 use model::refusals::UNKNOWN_KIND;
@@ -73,31 +74,31 @@ pub fn kind_number(kind: Kind) -> u8
     ensures { λ r. ⌜ r ≡ kindNumber kind ⌝ }
 {
     match kind {
-        Kind::Topic => 1,
-        Kind::Partition => 2,
-        Kind::BrokerRegistration => 3,
-        Kind::DeleteTopic => 4,
-        Kind::TopicConfig => 5,
-        Kind::BrokerConfig => 6,
-        Kind::ClientQuota => 7,
-        Kind::ProducerIds => 8,
-        Kind::UnregisterBroker => 9,
-        Kind::KRaftVersion => 10,
-        Kind::FeatureLevel => 11,
-        Kind::ClientMetricsConfig => 12,
-        Kind::FeaturesEpoch => 13,
-        Kind::PartitionDirAssignment => 14,
-        Kind::PartitionOffsetAdvance => 15,
-        Kind::GroupConfig => 16,
-        Kind::ControllerRegistration => 17,
-        Kind::TopicFreeze => 18,
-        Kind::BreakGlassProposal => 19,
-        Kind::DeleteBreakGlassProposal => 20,
-        Kind::PartitionElr => 21,
-        Kind::PartitionRecovery => 22,
-        Kind::PartitionUpdate => 23,
-        Kind::BrokerRegistrationChange => 24,
-        Kind::UnregisterController => 25,
+        Kind::Topic => kinds::TOPIC,
+        Kind::Partition => kinds::PARTITION,
+        Kind::BrokerRegistration => kinds::BROKER_REGISTRATION,
+        Kind::DeleteTopic => kinds::DELETE_TOPIC,
+        Kind::TopicConfig => kinds::TOPIC_CONFIG,
+        Kind::BrokerConfig => kinds::BROKER_CONFIG,
+        Kind::ClientQuota => kinds::CLIENT_QUOTA,
+        Kind::ProducerIds => kinds::PRODUCER_IDS,
+        Kind::UnregisterBroker => kinds::UNREGISTER_BROKER,
+        Kind::KRaftVersion => kinds::KRAFT_VERSION,
+        Kind::FeatureLevel => kinds::FEATURE_LEVEL,
+        Kind::ClientMetricsConfig => kinds::CLIENT_METRICS_CONFIG,
+        Kind::FeaturesEpoch => kinds::FEATURES_EPOCH,
+        Kind::PartitionDirAssignment => kinds::PARTITION_DIR_ASSIGNMENT,
+        Kind::PartitionOffsetAdvance => kinds::PARTITION_OFFSET_ADVANCE,
+        Kind::GroupConfig => kinds::GROUP_CONFIG,
+        Kind::ControllerRegistration => kinds::CONTROLLER_REGISTRATION,
+        Kind::TopicFreeze => kinds::TOPIC_FREEZE,
+        Kind::BreakGlassProposal => kinds::BREAK_GLASS_PROPOSAL,
+        Kind::DeleteBreakGlassProposal => kinds::DELETE_BREAK_GLASS_PROPOSAL,
+        Kind::PartitionElr => kinds::PARTITION_ELR,
+        Kind::PartitionRecovery => kinds::PARTITION_RECOVERY,
+        Kind::PartitionUpdate => kinds::PARTITION_UPDATE,
+        Kind::BrokerRegistrationChange => kinds::BROKER_REGISTRATION_CHANGE,
+        Kind::UnregisterController => kinds::UNREGISTER_CONTROLLER,
     }
 }
 

@@ -2,6 +2,7 @@
 use header::HEAD_SIZE;
 use header::NO_EPOCH;
 use header::put_header;
+use model::kinds;
 ghost use Prim.Native.Nat.{_+_, _≤_, _<_};
 ghost use lib.ListN.{length};
 ghost use Rattle.model.specs.Image.{headSize};
@@ -79,17 +80,17 @@ fn copy_record(image: &mut [u8], copied: Copied, rec: &[u8]) -> Copied
         return copied;
     }
     match rec[0] {
-        1 => Copied {
+        kinds::TOPIC => Copied {
             end: put_topic(image, end, rec),
             epoch,
             kraft,
         },
-        10 => Copied {
+        kinds::KRAFT_VERSION => Copied {
             end,
             epoch,
             kraft: number_in(rec),
         },
-        13 => Copied {
+        kinds::FEATURES_EPOCH => Copied {
             end,
             epoch: number_in(rec),
             kraft,

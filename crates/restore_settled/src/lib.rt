@@ -6,6 +6,8 @@ use image_counts::beside;
 use keys::number_at;
 use keys::value_at;
 use model::Order;
+use model::kinds::FEATURE_LEVEL;
+use model::kinds::TOPIC;
 ghost use mathlib.Core.Path.{_≡_};
 ghost use mathlib.Core.Bool.{true, _&&_};
 ghost use Prim.Native.Nat.{_≤_};
@@ -120,7 +122,7 @@ pub fn is_settled(s: &[u8]) -> bool
         match c.next(s) {
             Step::Entry(start, end, next) => {
                 c = next;
-                if s[start] != 1 {
+                if s[start] != TOPIC {
                     continue;
                 }
                 let t = tally_for(&s[start..end], &s[from..]);
@@ -139,7 +141,7 @@ pub fn is_settled(s: &[u8]) -> bool
     }
 }
 
-// Whether no entry is a feature level, of kind 11.
+// Whether no entry is a feature level.
 pub fn has_no_level(s: &[u8]) -> bool
     requires { ⌜ Entries (now s) ⌝ }
     ensures { λ r. ⌜ r ≡ every isNoLevel (recordsIn (now (s .entry))) ⌝ }
@@ -149,7 +151,7 @@ pub fn has_no_level(s: &[u8]) -> bool
         match c.next(s) {
             Step::Entry(start, end, next) => {
                 c = next;
-                if s[start] == 11 {
+                if s[start] == FEATURE_LEVEL {
                     return false;
                 }
             }

@@ -1,4 +1,5 @@
 // The table of shapes, one field to a line, and its rows by kind and tag. It is the packed form of the rows in `model`, by computation.
+use model::kinds;
 ghost use mathlib.Core.Path.{_≡_};
 ghost use Prim.Native.Nat.{_<_};
 ghost use lib.ListN.{getD};
@@ -203,31 +204,31 @@ pub fn base_of(kind: u8) -> usize
     ensures { λ r. ⌜ r ≡ kindBase logged kind ⌝ }
 {
     match kind {
-        1 => 0,
-        2 => 5,
-        3 => 16,
-        4 => 29,
-        5 => 31,
-        6 => 34,
-        7 => 38,
-        8 => 42,
-        9 => 46,
-        10 => 49,
-        11 => 51,
-        12 => 54,
-        13 => 57,
-        14 => 59,
-        15 => 64,
-        16 => 68,
-        17 => 71,
-        18 => 77,
-        19 => 87,
-        20 => 98,
-        21 => 100,
-        22 => 105,
-        23 => 109,
-        24 => 114,
-        25 => 121,
+        kinds::TOPIC => 0,
+        kinds::PARTITION => 5,
+        kinds::BROKER_REGISTRATION => 16,
+        kinds::DELETE_TOPIC => 29,
+        kinds::TOPIC_CONFIG => 31,
+        kinds::BROKER_CONFIG => 34,
+        kinds::CLIENT_QUOTA => 38,
+        kinds::PRODUCER_IDS => 42,
+        kinds::UNREGISTER_BROKER => 46,
+        kinds::KRAFT_VERSION => 49,
+        kinds::FEATURE_LEVEL => 51,
+        kinds::CLIENT_METRICS_CONFIG => 54,
+        kinds::FEATURES_EPOCH => 57,
+        kinds::PARTITION_DIR_ASSIGNMENT => 59,
+        kinds::PARTITION_OFFSET_ADVANCE => 64,
+        kinds::GROUP_CONFIG => 68,
+        kinds::CONTROLLER_REGISTRATION => 71,
+        kinds::TOPIC_FREEZE => 77,
+        kinds::BREAK_GLASS_PROPOSAL => 87,
+        kinds::DELETE_BREAK_GLASS_PROPOSAL => 98,
+        kinds::PARTITION_ELR => 100,
+        kinds::PARTITION_RECOVERY => 105,
+        kinds::PARTITION_UPDATE => 109,
+        kinds::BROKER_REGISTRATION_CHANGE => 114,
+        kinds::UNREGISTER_CONTROLLER => 121,
         0 | 26..=255 => ROW_COUNT,
     }
 }
@@ -236,7 +237,7 @@ pub fn base_of(kind: u8) -> usize
 pub fn stored_base_of(kind: u8) -> usize
     ensures { λ r. ⌜ r ≡ kindBase stored kind ⌝ }
 {
-    if kind == 1 {
+    if kind == kinds::TOPIC {
         return STORED_TOPIC;
     }
     base_of(kind)

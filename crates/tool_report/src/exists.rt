@@ -5,6 +5,7 @@ use image::is_image;
 use model::NodeId;
 use model::answers::Rated;
 use model::answers::Value;
+use model::kinds;
 use tool_parting::snapshots::end_of;
 use tool_parting::snapshots::more_by_one;
 use tool_parting::snapshots::take_snapshot;
@@ -83,16 +84,16 @@ fn with_record(image: &[u8], records: &[u8], rec: &[u8], seen: Seen) -> Seen {
     }
     let mut next = seen;
     match rec[0] {
-        1 => {
+        kinds::TOPIC => {
             next.topics = more_by_one(seen.topics);
             next.written = say_topic(records, rec);
         }
-        2 => next.partitions = more_by_one(seen.partitions),
-        3 => next.brokers = more_by_one(seen.brokers),
-        6 => next = with_config(image, rec, seen),
-        7 => next.written = say_quota(rec),
-        18 => next.written = say_freeze(rec),
-        0 | 4 | 5 | 8..=17 | 19..=255 => {}
+        kinds::PARTITION => next.partitions = more_by_one(seen.partitions),
+        kinds::BROKER_REGISTRATION => next.brokers = more_by_one(seen.brokers),
+        kinds::BROKER_CONFIG => next = with_config(image, rec, seen),
+        kinds::CLIENT_QUOTA => next.written = say_quota(rec),
+        kinds::TOPIC_FREEZE => next.written = say_freeze(rec),
+        _ => {}
     }
     next
 }
