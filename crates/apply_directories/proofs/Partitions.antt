@@ -38,7 +38,7 @@ module _ (e : Bytes) (i : IsPartition e) where
 
   replicas-fit : (length (replicas (recordIn e .run)) % 8 ≡ 0) × (nodeCount (replicas (recordIn e .run)) ≤ 64)
   unfolding rowsOf shapeOf kindNumber
-  replicas-fit = fault-value stored Partition (recordIn e .run) partition-passes 4 refl refl
+  replicas-fit = let f = fault-value stored Partition (recordIn e .run) partition-passes 4 refl refl in (f .0, f .1)
 
   directories-fit : (length (directories (recordIn e .run)) % 16 ≡ 0) × (length (directories (recordIn e .run)) / 16 ≤ 64)
   unfolding rowsOf shapeOf kindNumber

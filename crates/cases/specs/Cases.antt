@@ -1,6 +1,6 @@
 -- M1 to M10 of 01's "Checked by hand": one table, one theorem. The rows are about the operations' functions on bytes, and they compute.
 use mathlib.Core.Path.{_≡_, refl}
-use Prim.Native.Nat.{ℕ, _+_, _-_, _^_}
+use Prim.Native.Nat.{ℕ, _-_, _^_}
 use mathlib.Core.List.{List, [], _∷_, _++_}
 use lib.ListN.{length, replicate}
 use Rattle.model.specs.Number.{Bytes, number, bytes}
@@ -9,6 +9,7 @@ use Rattle.model.specs.Choice as Choice
 use Rattle.model.specs.Text as Text
 use Rattle.model.specs.Order as Order
 use Rattle.model.specs.Kind as Kind
+use Rattle.model.specs.Nodes as Nodes
 use Rattle.model.specs.Shape as Shape
 use Rattle.model.specs.Reply as Reply
 use Rattle.model.specs.Record as Record
@@ -117,7 +118,7 @@ Agree (c ∷ cs) = (c .answers ≡ c .expected) × Agree cs
 pub marked-cases : Agree cases
 unfolding cases Text.wellFormed Text.following Text.textAfter Run.parse Run.bytesOf Run.field Run.values Run.dropField Run.setField Run.items
     Order.compareBytes Order.compareKeys Order.sameBytes Kind.kinds Kind.kindOf Kind.kindNumber Shape.rowsOf Shape.anyRequired
-    Shape.mayFollow Shape.isBelowByte Shape.leafFault Shape.runFault Shape.valueFault Shape.shapeOf Reply.emitBytes Record.recordBytes
+    Nodes.nodesFrom Nodes.isAmong Nodes.noRepeats Shape.mayFollow Shape.isBelowByte Shape.leafFault Shape.runFault Shape.valueFault Shape.shapeOf Reply.emitBytes Record.recordBytes
     Record.read Record.readOf Record.gathered Record.writeOf Key.rank Key.entitiesKey Key.subject Key.keyOf Key.keyRank Key.keyName
     Key.topicOf Key.groupKey Key.startsWith Map.put Map.get Map.remove Map.keep Map.any Map.count Map.ascending Contents.returned
     Contents.kept Contents.key Contents.groupOf Contents.ofTopic Contents.partitions Contents.size Choice.total Contents.weight

@@ -15,6 +15,7 @@ use Rattle.model.specs.Text as Text
 use Rattle.model.specs.Run as Run
 use Rattle.model.specs.Order as Order
 use Rattle.model.specs.Kind as Kind
+use Rattle.model.specs.Nodes as Nodes
 use Rattle.model.specs.Shape as Shape
 use Rattle.model.specs.Reply as Reply
 use Rattle.model.specs.Record as Record
@@ -130,7 +131,7 @@ are-bytes (x ∷ s) h = let b = and-yes (ltb x 256) (every (λ y. ltb y 256) s) 
 
 computes : (p : Premise) → Computes p (table p)
 unfolding returned Text.wellFormed Text.following Text.textAfter Run.parse Run.bytesOf Run.field Run.dropField Run.setField
-    Order.compareBytes Order.compareKeys Order.sameBytes Kind.kindOf Kind.kindNumber Shape.rowsOf Shape.anyRequired Shape.mayFollow
+    Order.compareBytes Order.compareKeys Order.sameBytes Kind.kindOf Kind.kindNumber Nodes.nodesFrom Nodes.isAmong Nodes.noRepeats Shape.rowsOf Shape.anyRequired Shape.mayFollow
     Shape.leafFault Shape.runFault Shape.valueFault Shape.shapeOf Reply.emitBytes Record.recordBytes Record.read Key.rank Key.subject
     Key.keyOf Key.keyRank Key.keyName Map.put Map.get Map.remove Map.any Map.count Map.ascending Contents.returned Contents.kept
     Contents.key Contents.groupOf Contents.ofTopic Contents.partitions Contents.size Choice.total Contents.weight Contents.isGroup

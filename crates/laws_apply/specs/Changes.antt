@@ -12,7 +12,7 @@ use Rattle.model.specs.Number.{Bytes, AreBytes, number}
 use Rattle.model.specs.Order.{sameBytes}
 use Rattle.model.specs.Run.{Run, runOf, field, value, setField}
 use Rattle.model.specs.Kind.{kindNumber}
-use Rattle.model.specs.Shape.{Form, fixed, below, text, mapKey, raw, list, nested, Row, recordOf, rowsOf, anyRequired, mayFollow}
+use Rattle.model.specs.Shape.{Form, fixed, below, text, mapKey, raw, list, nodeSet, nested, Row, recordOf, rowsOf, anyRequired, mayFollow}
 use Rattle.model.specs.Shape.{listLimit, start, leafFault, runFault, valueFault, logged, stored, shapeOf, fault}
 use Rattle.model.specs.Record.{rec}
 use Rattle.model.specs.Move.{nodeWidth, idWidth, elrRec, recoveryRec, fencedAfter, changedBroker}
@@ -98,6 +98,7 @@ isLeaf (text limit) = true
 isLeaf (mapKey limit) = false
 isLeaf (raw limit) = true
 isLeaf (list width limit) = true
+isLeaf (nodeSet limit) = true
 isLeaf (nested s) = false
 
 leaf-value : (form : Form) → isLeaf form ≡ true → (prior k : Option Bytes) (v : Bytes) → leafFault prior form v ≡ valueFault k form v
@@ -108,6 +109,7 @@ leaf-value (text limit) h prior k v = refl
 leaf-value (mapKey limit) h prior k v = impossible cc
 leaf-value (raw limit) h prior k v = refl
 leaf-value (list width limit) h prior k v = refl
+leaf-value (nodeSet limit) h prior k v = refl
 leaf-value (nested s) h prior k v = impossible cc
 
 every-at : {A : Type 0} (test : A → Bool) (l : List A) (i : ℕ) (x : A) → every test l ≡ true → getElem? l i ≡ some x → test x ≡ true

@@ -11,7 +11,7 @@ use Rattle.model.specs.Choice.{joined}
 use Rattle.model.specs.Number.{Bytes, AreBytes, number, span}
 use Rattle.model.specs.Run.{bytesOf}
 use Rattle.model.specs.Shape.{stored, fault}
-use Rattle.model.specs.Record.{Rec, recordBytes}
+use Rattle.model.specs.Record.{Rec, recordBytes, replicasApart}
 use Rattle.model.specs.Items.{records, isWhole}
 use Rattle.model.specs.Contents.{kept, Contents, fixedRoom, weight, sound}
 use Rattle.model.specs.Image.{headSize, zeros, header, entryBytes, used, imageOf, usedIn, fixedIn, itemsIn}
@@ -20,6 +20,7 @@ use Rattle.laws.specs.Lists.{All, all-imp, all-both, all-append-left, all-appen
 use Rattle.laws.specs.Numbers.{slice-are-bytes, number-bound, left-are-bytes, right-are-bytes}
 use Rattle.laws_records.specs.Runs.{AreFields, fields-run, run-bytes}
 use Rattle.laws_records.specs.Faults.{fault-whole, fault-short}
+use Rattle.laws_records.specs.Apart.{passes-apart}
 use Rattle.laws_records.specs.Items.{AllPass, Spells, spells-items}
 use Rattle.laws_image.specs.Fits.{Readable, Proper, Fits}
 use Rattle.laws_image.specs.Entries.{kept-entry, entry-proper, real-empties}
@@ -153,3 +154,7 @@ image-exactly b p = (
 pub contents-injective : (capacity : ℕ) (c d : Contents) → Fits capacity c → Fits capacity d → imageOf capacity c ≡ imageOf capacity d
     → c ≡ d
 contents-injective capacity c d f g e = sym (image-contents capacity c f) ∙ ap contentsOf e ∙ image-contents capacity d g
+
+-- no stored partition has a repeat in its replicas
+pub image-apart : (b : Bytes) → AreBytes b → isImage b ≡ true → All (λ e. replicasApart (kept e) ≡ true) (contentsOf b .real)
+image-apart b p h = all-imp Proper (λ e. replicasApart (kept e) ≡ true) (λ e q. passes-apart stored (kept e) (q .readable .passes)) (contentsOf b .real) (image-fits b p h .entries)

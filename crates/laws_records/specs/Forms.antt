@@ -12,7 +12,8 @@ use Rattle.model.specs.Choice.{orThen, unless, every}
 use Rattle.model.specs.Number.{Bytes}
 use Rattle.model.specs.Text.{isText}
 use Rattle.model.specs.Run.{runOf}
-use Rattle.model.specs.Shape.{Shape, Form, fixed, below, text, mapKey, raw, list, nested, Row, rowsOf, start, ascends, isBelowByte, leafFault, valueFault}
+use Rattle.model.specs.Nodes.{nodesFrom, noRepeats}
+use Rattle.model.specs.Shape.{Shape, Form, fixed, below, text, mapKey, raw, list, nodeSet, nested, Row, rowsOf, start, ascends, isBelowByte, leafFault, valueFault}
 use Rattle.laws.specs.Choice.{impossible, and-left, and-right, orThen-left, orThen-right, unless-true}
 use Rattle.laws_records.specs.Passing.{Check, run-same, Passing, passing, passes}
 
@@ -34,6 +35,7 @@ Fits run prior (text limit) v = (isText v ≡ true) × (length v ≤ limit)
 Fits run prior (mapKey limit) v = (isText v ≡ true) × (ascends prior v ≡ true) × (length v ≤ limit)
 Fits run prior (raw limit) v = length v ≤ limit
 Fits run prior (list width limit) v = (length v % width ≡ 0) × (length v / width ≤ limit)
+Fits run prior (nodeSet limit) v = (length v % 8 ≡ 0) × (length v / 8 ≤ limit) × (noRepeats (nodesFrom (length v / 8) v) ≡ true)
 Fits run prior (nested s) v = run s v
 
 abbrev pub LeafFits : Option Bytes → Form → Bytes → Type 0
@@ -80,6 +82,14 @@ leaf-fits prior (list width limit) v e =
     let b = unless (leb (length v / width) limit) 5 in
     let f = passed (eqb (length v % width) 0) 3 (orThen-left a b e) in
     (eqb-true (length v % width) 0 f, limited (length v / width) limit (orThen-right a b e))
+leaf-fits prior (nodeSet limit) v e =
+    let a = unless (eqb (length v % 8) 0) 4 in
+    let b = unless (leb (length v / 8) limit) 5 in
+    let apart = noRepeats (nodesFrom (length v / 8) v) in
+    let c = unless apart 20 in
+    let f = passed (eqb (length v % 8) 0) 3 (orThen-left a (orThen b c) e) in
+    let g = orThen-right a (orThen b c) e in
+    (eqb-true (length v % 8) 0 f, limited (length v / 8) limit (orThen-left b c g), passed apart 19 (orThen-right b c g))
 leaf-fits prior (nested s) v e = absurd (omega arith)
 
 pub fits-leaf : (prior : Option Bytes) (form : Form) (v : Bytes) → LeafFits prior form v → leafFault prior form v ≡ 0
@@ -90,6 +100,7 @@ fits-leaf prior (text limit) v h = rw (h .0, le-leb (length v) limit (h .1))
 fits-leaf prior (mapKey limit) v h = rw (h .0, h .1, le-leb (length v) limit (h .2))
 fits-leaf prior (raw limit) v h = rw (le-leb (length v) limit h)
 fits-leaf prior (list width limit) v h = rw (eq-eqb (length v % width) 0 (h .0), le-leb (length v / width) limit (h .1))
+fits-leaf prior (nodeSet limit) v h = rw (eq-eqb (length v % 8) 0 (h .0), le-leb (length v / 8) limit (h .1), h .2)
 fits-leaf prior (nested s) v h = absurd h
 
 pub value-fits : (prior : Option Bytes) (form : Form) (v : Bytes) → valueFault prior form v ≡ 0 → ValueFits prior form v
@@ -100,6 +111,7 @@ value-fits prior (text limit) v e = leaf-fits prior (text limit) v e
 value-fits prior (mapKey limit) v e = leaf-fits prior (mapKey limit) v e
 value-fits prior (raw limit) v e = leaf-fits prior (raw limit) v e
 value-fits prior (list width limit) v e = leaf-fits prior (list width limit) v e
+value-fits prior (nodeSet limit) v e = leaf-fits prior (nodeSet limit) v e
 value-fits prior (nested s) v e = passing (leafCheck prior) (rowsOf s) (runOf v) e
 
 pub fits-value : (prior : Option Bytes) (form : Form) (v : Bytes) → ValueFits prior form v → valueFault prior form v ≡ 0
@@ -110,6 +122,7 @@ fits-value prior (text limit) v h = fits-leaf prior (text limit) v h
 fits-value prior (mapKey limit) v h = fits-leaf prior (mapKey limit) v h
 fits-value prior (raw limit) v h = fits-leaf prior (raw limit) v h
 fits-value prior (list width limit) v h = fits-leaf prior (list width limit) v h
+fits-value prior (nodeSet limit) v h = fits-leaf prior (nodeSet limit) v h
 fits-value prior (nested s) v h = passes (leafCheck prior) (rowsOf s) (runOf v) h
 
 -- forms other than a map's key do not look at the key before
@@ -120,6 +133,7 @@ isKeyless (text limit) = true
 isKeyless (mapKey limit) = false
 isKeyless (raw limit) = true
 isKeyless (list width limit) = true
+isKeyless (nodeSet limit) = true
 isKeyless (nested s) = true
 
 pub leaf-keyless : (k l : Option Bytes) (form : Form) (v : Bytes) → isKeyless form ≡ true → leafFault k form v ≡ leafFault l form v
@@ -130,6 +144,7 @@ leaf-keyless k l (text limit) v h = refl
 leaf-keyless k l (mapKey limit) v h = impossible cc
 leaf-keyless k l (raw limit) v h = refl
 leaf-keyless k l (list width limit) v h = refl
+leaf-keyless k l (nodeSet limit) v h = refl
 leaf-keyless k l (nested s) v h = refl
 
 every-row : (rows : List Row) (i : ℕ) (row : Row) → every (λ x. isKeyless (x .form)) rows ≡ true → getElem? rows i ≡ some row

@@ -12,7 +12,7 @@ use Rattle.model.specs.Choice.{given}
 use Rattle.model.specs.Number.{Bytes}
 use Rattle.model.specs.Run.{Run, done, torn, item, runOf, bytesOf}
 use Rattle.model.specs.Kind.{kindNumber}
-use Rattle.model.specs.Shape.{Shape, recordOf, storedTopic, Form, fixed, below, text, mapKey, raw, list, nested, Row, rowsOf, rowAt, Before, start, countBefore, keyBefore, after, runFault, leafFault, valueFault, Source, logged, stored, shapeOf}
+use Rattle.model.specs.Shape.{Shape, recordOf, storedTopic, Form, fixed, below, text, mapKey, raw, list, nodeSet, nested, Row, rowsOf, rowAt, Before, start, countBefore, keyBefore, after, runFault, leafFault, valueFault, Source, logged, stored, shapeOf}
 use Rattle.model.specs.declared.Kind.{Kind}
 use Rattle.model.specs.declared.Kind.the-variants.{Topic, Partition, BrokerRegistration, DeleteTopic, TopicConfig, BrokerConfig, ClientQuota, ProducerIds, UnregisterBroker, KRaftVersion, FeatureLevel, ClientMetricsConfig, FeaturesEpoch}
 use Rattle.model.specs.declared.Kind.the-variants.{PartitionDirAssignment, PartitionOffsetAdvance, GroupConfig, ControllerRegistration, TopicFreeze, BreakGlassProposal, DeleteBreakGlassProposal, PartitionElr, PartitionRecovery, PartitionUpdate, BrokerRegistrationChange, UnregisterController}
@@ -30,6 +30,7 @@ mostWith run (text limit) = limit
 mostWith run (mapKey limit) = limit
 mostWith run (raw limit) = limit
 mostWith run (list width limit) = limit * width
+mostWith run (nodeSet limit) = limit * 8
 mostWith run (nested s) = run s
 
 -- a row's fields: each with its tag and its length
@@ -64,6 +65,7 @@ fits-most run size h prior (text limit) v f = f .1
 fits-most run size h prior (mapKey limit) v f = f .2
 fits-most run size h prior (raw limit) v f = f
 fits-most run size h prior (list width limit) v f = omega (arith, div-add-mod' (length v) width, mul-le-mul-right width (f .1))
+fits-most run size h prior (nodeSet limit) v f = omega (arith, div-add-mod' (length v) 8, mul-le-mul-right 8 (f .1))
 fits-most run size h prior (nested s) v f = h s v f
 
 pub leaf-length : (prior : Option Bytes) (form : Form) (v : Bytes) → leafFault prior form v ≡ 0 → length v ≤ mostLeaf form

@@ -8,6 +8,7 @@
 --   how long what passes can be ........................... Lengths.longest-shape, Faults.fault-length
 --   kinds and their numbers ............................... Kinds.kind-number, Kinds.number-kind
 --   Read and a record's bytes ............................. Records.read-record, Records.reads; stored and logged: Stored
+--   no replica list that is read has a repeat ............. Apart.read-apart
 --   Read and Write undo each other ........................ Writes.write-read, Writes.read-back; outputs: Emits
 --   records back to back .................................. Items.items-records, Items.spells-items
 pub mod Halves
@@ -21,6 +22,7 @@ pub mod Lengths
 pub mod Faults
 pub mod Kinds
 pub mod Records
+pub mod Apart
 pub mod Stored
 pub mod Emits
 pub mod Writes

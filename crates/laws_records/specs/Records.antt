@@ -1,9 +1,9 @@
 -- Read and a record's bytes undo each other.
-use mathlib.Core.Path.{_≡_, refl, sym, ap, _∙_}
+use mathlib.Core.Path.{_≡_, refl, sym, ap, subst, _∙_}
 use mathlib.Core.List.{[], _∷_, _++_}
 use mathlib.Core.Bool.{Bool, true, false, cond}
 use mathlib.Core.Option.{Option, none, some}
-use Prim.Native.Nat.{ℕ, zero, suc, _+_, _*_, _≤_}
+use Prim.Native.Nat.{ℕ, zero, suc, _+_, _*_, _≤_, _<_}
 use native.Mathlib.Omega.{arith}
 use borrow.Author.Tests.{le-ltb, ltb-false}
 use lib.Dec.{ltb}
@@ -43,12 +43,12 @@ read-record source r rest ok =
 -- 2. What was read
 
 -- a head of three bytes, and the body after it
-record Head (source : Source) (k m : ℕ) (s : Bytes) (r : Rec) (n : ℕ) : Type 0 where
-  room : m ≤ length s
-  known : kindOf k ≡ some (r .kind)
-  spelt : runOf (take m s) ≡ r .run
-  passes : fault source (r .kind) (r .run) ≡ 0
-  used : n ≡ 3 + m
+pub record Head (source : Source) (k m : ℕ) (s : Bytes) (r : Rec) (n : ℕ) : Type 0 where
+  pub room : m ≤ length s
+  pub known : kindOf k ≡ some (r .kind)
+  pub spelt : runOf (take m s) ≡ r .run
+  pub passes : fault source (r .kind) (r .run) ≡ 0
+  pub used : n ≡ 3 + m
 
 cond-got : (b : Bool) (c n : ℕ) (g : Got) (r : Rec) → cond b (bad c) g ≡ got r n → (b ≡ false) × (g ≡ got r n)
 cond-got true c n g r e = impossible cc
@@ -64,7 +64,7 @@ whole-got zero q m r n e = (refl, cc, cc)
 whole-got (suc c) q m r n e = impossible cc
 
 module _ (source : Source) (k h l : ℕ) (s : Bytes) (r : Rec) (n : ℕ) where
-  head-of : read source (k ∷ h ∷ l ∷ s) ≡ got r n → Head source k (h * 256 + l) s r n
+  pub head-of : read source (k ∷ h ∷ l ∷ s) ≡ got r n → Head source k (h * 256 + l) s r n
   unfolding read
   head-of e =
       let m : ℕ = h * 256 + l in
@@ -161,6 +161,38 @@ read-later source s r n e = reads source s r n e .later
 
 pub read-used : (source : Source) (s : Bytes) (r : Rec) (n : ℕ) → read source s ≡ got r n → (n ≡ length (recordBytes r)) × (3 ≤ n)
 read-used source s r n e = let d = reads source s r n e in (d .used, d .head)
+
+-- a refusal's number is not 0
+Numbered : Got → Type 0
+Numbered (bad n) = 0 < n
+Numbered (got r n) = Unit {0}
+
+numbered : (source : Source) (s : Bytes) → Numbered (read source s)
+unfolding read Numbered
+numbered source [] = omega arith
+numbered source (k ∷ []) = omega arith
+numbered source (k ∷ h ∷ []) = omega arith
+numbered source (k ∷ h ∷ l ∷ s) = long (ltb (length s) (h * 256 + l))
+  where
+    run : Run
+    run = runOf (take (h * 256 + l) s)
+
+    passed : (c : ℕ) (r : Rec) → Numbered (whole c r (3 + (h * 256 + l)))
+    passed zero r = tt
+    passed (suc c) r = omega arith
+
+    known : (o : Option Kind) → Numbered (given o (bad 3) (λ kind. whole (fault source kind run) (rec kind run) (3 + (h * 256 + l))))
+    known none = omega arith
+    known (some kind) = passed (fault source kind run) (rec kind run)
+
+    long : (b : Bool)
+        → Numbered (cond b (bad 2) (given (kindOf k) (bad 3) (λ kind. whole (fault source kind run) (rec kind run) (3 + (h * 256 + l)))))
+    long true = omega arith
+    long false = known (kindOf k)
+
+pub refusal-positive : (source : Source) (s : Bytes) (n : ℕ) → read source s ≡ bad n → 0 < n
+unfolding Numbered
+refusal-positive source s n e = subst Numbered e (numbered source s)
 
 -- 3. Records apart
 

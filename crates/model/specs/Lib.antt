@@ -32,6 +32,7 @@
 --   images stay images; each premise is needed ............ History.ReachedIsImage, RestoreLeavesImage, PremiseNeeded
 -- 02's requests
 --   1, short leaves the adding replicas out ............... Nodes.outside, Lookup.expected
+--   2, no node twice in a replica list .................... Nodes.noRepeats, Shape.nodeSet, Record.replicasApart
 pub mod Choice
 pub mod Number
 pub mod Text

@@ -1,6 +1,6 @@
 -- Lists of nodes, eight bytes each, by their numbers.
 use Prim.Native.Nat.{ℕ, zero, suc, _/_}
-use mathlib.Core.Bool.{Bool, false, cond, _||_}
+use mathlib.Core.Bool.{Bool, true, false, cond, _&&_, _||_, not}
 use mathlib.Core.List.{List, [], _∷_}
 use lib.Dec.{eqb}
 use lib.ListN.{length, take, drop}
@@ -17,6 +17,10 @@ nodesOf v = nodesFrom (length v / 8) v
 unfoldable pub isAmong : ℕ → List ℕ → Bool
 isAmong n [] = false
 isAmong n (x ∷ l) = eqb n x || isAmong n l
+
+unfoldable pub noRepeats : List ℕ → Bool
+noRepeats [] = true
+noRepeats (x ∷ l) = not (isAmong x l) && noRepeats l
 
 -- those that are not among others
 unfoldable pub outside : List ℕ → List ℕ → ℕ

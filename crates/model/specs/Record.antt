@@ -1,13 +1,14 @@
 -- Records, Read and Write: 01, "A record is a kind byte, a two-byte body length, and fields".
 use Prim.Native.Nat.{ℕ, zero, suc, _+_, _*_}
-use mathlib.Core.Bool.{cond}
+use mathlib.Core.Bool.{Bool, true, cond}
 use mathlib.Core.List.{List, [], _∷_, _++_}
-use lib.Dec.{leb, ltb}
+use lib.Dec.{leb, ltb, eqb}
 use lib.ListN.{length, take, drop}
 use Rattle.model.specs.Choice.{given}
 use Rattle.model.specs.Number.{Bytes, bytes}
-use Rattle.model.specs.Run.{Run, done, torn, item, runOf, bytesOf}
+use Rattle.model.specs.Run.{Run, done, torn, item, runOf, bytesOf, value}
 use Rattle.model.specs.Kind.{kindOf, kindNumber}
+use Rattle.model.specs.Nodes.{nodesOf, noRepeats}
 use Rattle.model.specs.Shape.{Source, logged, fault}
 use Rattle.model.specs.Reply.{Reply, accepted, refused, Ended, unchanged, emitBytes}
 use Rattle.model.specs.declared.Kind.{Kind}
@@ -53,6 +54,21 @@ onGot (got r used) f g = g r used
 unfoldable pub readOf : Bytes → Reply
 readOf s = onGot (read logged s) refused (λ r used. accepted (used ∷ []))
 
+-- 02, 2: "Reading Partition and PartitionUpdate promises a replica list without repeats"
+unfoldable pub apartBy : ℕ → Run → Bool
+apartBy k run =
+    cond (eqb k 2) (noRepeats (nodesOf (value 4 run))) (cond (eqb k 23) (noRepeats (nodesOf (value 4 (runOf (value 1 run))))) true)
+
+abbrev pub replicasApart : Rec → Bool
+replicasApart r = apartBy (kindNumber (r .kind)) (r .run)
+
+-- the same of the record that bytes begin with, by the kind and the length that stand there, whether or not Read accepts it
+unfoldable pub beginsApart : Bytes → Bool
+beginsApart [] = true
+beginsApart (k ∷ []) = true
+beginsApart (k ∷ h ∷ []) = true
+beginsApart (k ∷ h ∷ l ∷ s) = apartBy k (runOf (take (h * 256 + l) s))
+
 -- 2. Write
 
 -- the fields of three lists: tags, lengths, and the values back to back. A field whose length is missing or runs past the values is torn, and
@@ -68,7 +84,7 @@ abbrev pub writing : ℕ → Rec → Bytes → Ended
 writing zero r out = emitBytes (recordBytes r) out
 writing (suc n) r out = unchanged (suc n) out
 
--- *Write*: "4 and 5 of the given values, in field order; then 19"
+-- *Write*: "4 and 5 of the given values, in field order; then 19"; 02, 2: 20 directly after them
 unfoldable pub writeOf : Kind → Bytes → List ℕ → Bytes → Bytes → Ended
 writeOf kind tags lengths vals out =
     let run = gathered tags lengths vals in

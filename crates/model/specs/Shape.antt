@@ -12,6 +12,7 @@ use Rattle.model.specs.Number.{Bytes}
 use Rattle.model.specs.Text.{isText}
 use Rattle.model.specs.Order.{compareBytes, isBelow}
 use Rattle.model.specs.Run.{Run, done, torn, item, runOf, field}
+use Rattle.model.specs.Nodes.{nodesOf, noRepeats}
 use Rattle.model.specs.Kind.{kindNumber}
 use Rattle.model.specs.declared.Kind.{Kind}
 use Rattle.model.specs.declared.Kind.the-variants.{Topic, Partition, BrokerRegistration, DeleteTopic, TopicConfig, BrokerConfig, ClientQuota, ProducerIds, UnregisterBroker, KRaftVersion, FeatureLevel, ClientMetricsConfig, FeaturesEpoch}
@@ -38,6 +39,7 @@ pub data Form : Type 0 where
   mapKey : ℕ → Form
   raw : ℕ → Form
   list : ℕ → ℕ → Form
+  nodeSet : ℕ → Form
   nested : Shape → Form
 
 pub data Presence : Type 0 where
@@ -121,7 +123,7 @@ pairs = many listLimit pair
 unfoldable pub rowsOf : Shape → List Row
 rowsOf (recordOf Topic) = must string ∷ must uuid ∷ must i32 ∷ must i16 ∷ []
 rowsOf (recordOf Partition) =
-    must string ∷ must i32 ∷ must u64 ∷ must nodes ∷ must nodes ∷ must i32 ∷ must nodes ∷ must nodes ∷ must uuids ∷ must i32 ∷ []
+    must string ∷ must i32 ∷ must u64 ∷ must (nodeSet listLimit) ∷ must nodes ∷ must i32 ∷ must nodes ∷ must nodes ∷ must uuids ∷ must i32 ∷ []
 rowsOf (recordOf BrokerRegistration) =
     must u64 ∷ must i64 ∷ must uuid ∷ must string ∷ must u16 ∷ may string ∷ endpoints ∷ must uuids ∷ must bool ∷ must bool ∷ may uuids ∷
     features ∷ []
@@ -231,6 +233,8 @@ leafFault prior (text limit) v = textFault limit v
 leafFault prior (mapKey limit) v = orThen (unless (isText v) 4) (orThen (unless (ascends prior v) 4) (unless (leb (length v) limit) 5))
 leafFault prior (raw limit) v = unless (leb (length v) limit) 5
 leafFault prior (list width limit) v = orThen (unless (eqb (length v % width) 0) 4) (unless (leb (length v / width) limit) 5)
+leafFault prior (nodeSet limit) v =
+    orThen (unless (eqb (length v % 8) 0) 4) (orThen (unless (leb (length v / 8) limit) 5) (unless (noRepeats (nodesOf v)) 20))
 leafFault prior (nested s) v = 4
 
 -- 4. Runs
@@ -256,6 +260,7 @@ valueFault prior (text limit) v = leafFault prior (text limit) v
 valueFault prior (mapKey limit) v = leafFault prior (mapKey limit) v
 valueFault prior (raw limit) v = leafFault prior (raw limit) v
 valueFault prior (list width limit) v = leafFault prior (list width limit) v
+valueFault prior (nodeSet limit) v = leafFault prior (nodeSet limit) v
 valueFault prior (nested s) v = nestedFault prior s v
 
 -- where a record stands: in the log that operations are given, or in an image, whose topics have one field more
@@ -267,6 +272,6 @@ unfoldable pub shapeOf : Source → Kind → Shape
 shapeOf logged k = recordOf k
 shapeOf stored k = cond (eqb (kindNumber k) 1) storedTopic (recordOf k)
 
--- what is wrong with a record's fields: 0 nothing, else 4 or 5
+-- what is wrong with a record's fields: 0 nothing, else 4, 5 or 20
 abbrev pub fault : Source → Kind → Run → ℕ
 fault source kind run = runFault valueFault (rowsOf (shapeOf source kind)) start run

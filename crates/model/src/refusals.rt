@@ -1,4 +1,4 @@
-// What is refused, by 01's numbers.
+// What is refused, by 01's and 02's numbers.
 
 // No image, or for Open no capacity.
 pub const NO_IMAGE: u8 = 1;
@@ -48,3 +48,6 @@ pub const FULL: u8 = 18;
 
 // The output is too short.
 pub const TOO_SHORT: u8 = 19;
+
+// Read and Write: a node listed twice in the replicas, directly after 4 and 5 of that field.
+pub const REPEATED: u8 = 20;

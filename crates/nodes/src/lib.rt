@@ -1,8 +1,8 @@
 // Lists of nodes, eight bytes each, by their numbers.
 ghost use mathlib.Core.Path.{_≡_};
-ghost use Prim.Native.Nat.{_/_, _≤_};
-ghost use lib.ListN.{length, take};
-ghost use Rattle.model.specs.Nodes.{nodesFrom, nodesOf, isAmong, outside as outsideOf};
+ghost use Prim.Native.Nat.{_+_, _/_, _≤_, _<_};
+ghost use lib.ListN.{length, take, drop, getD};
+ghost use Rattle.model.specs.Nodes.{nodesFrom, nodesOf, isAmong, noRepeats, outside as outsideOf};
 
 // Puts the numbers of a list's nodes into the first places of `nodes`. How many there are.
 pub fn load(nodes: &mut [u64], v: &[u8]) -> usize
@@ -62,4 +62,36 @@ pub fn outside_in(v: &[u8], w: &[u8]) -> usize
     let mut others = [0; 64];
     let more = load(&mut others, w);
     outside(&list[..count], &others[..more])
+}
+
+// Whether the node at a place of a list comes again behind it.
+fn comes_again(v: &[u8], at: usize) -> bool
+    requires { ⌜ at < length (now v) / 8 ⌝ }
+    ensures { λ r. ⌜ r ≡ isAmong (getD (nodesOf (now (v .entry))) at 0) (drop (at + 1) (nodesOf (now (v .entry)))) ⌝ }
+{
+    let node = wire::get(v, at * 8, 8);
+    let count = v.len() / 8;
+    let mut i = at + 1;
+    while i < count {
+        if wire::get(v, i * 8, 8) == node {
+            return true;
+        }
+        i += 1;
+    }
+    false
+}
+
+// Whether no node of a list comes twice.
+pub fn apart_in(v: &[u8]) -> bool
+    ensures { λ r. ⌜ r ≡ noRepeats (nodesOf (now (v .entry))) ⌝ }
+{
+    let count = v.len() / 8;
+    let mut i = 0;
+    while i < count {
+        if comes_again(v, i) {
+            return false;
+        }
+        i += 1;
+    }
+    true
 }

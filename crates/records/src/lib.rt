@@ -15,13 +15,14 @@ use shapes::base_of;
 use shapes::stored_base_of;
 use wire::get16;
 ghost use mathlib.Core.Path.{_≡_};
+ghost use mathlib.Core.Bool.{true};
 ghost use mathlib.Core.List.{_++_};
 ghost use Prim.Native.Nat.{_+_, _<_, _≤_};
 ghost use lib.ListN.{length};
 ghost use Rattle.model.specs.Kind.{kindNumber};
 ghost use Rattle.model.specs.Run.{bytesOf};
 ghost use Rattle.model.specs.Shape.{logged, fault};
-ghost use Rattle.model.specs.Record.{read as readFrom, readOf, gathered, writeOf};
+ghost use Rattle.model.specs.Record.{read as readFrom, readOf, beginsApart, gathered, writeOf};
 ghost use Rattle.laws_records.specs.Runs.{Whole};
 ghost use Rattle.shapes.specs.Table.{table, kindBase};
 ghost use Rattle.model.specs.Answers.{replied};
@@ -61,9 +62,10 @@ pub fn read_from(rows: &[u32], s: &[u8], in_image: bool) -> Answer
     Answer::Used(end)
 }
 
-// Reads the record at the start of `s`: the bytes used. Later bytes are not looked at.
+// Reads the record at the start of `s`: the bytes used. Later bytes are not looked at. What it accepts lists no node twice in its replicas.
 pub fn read(s: &[u8]) -> Answer
     ensures { λ r. ⌜ replied r ≡ readOf (now (s .entry)) ⌝ }
+    ensures { λ r. ⌜ (replied r .number ≡ 0 → beginsApart (now (s .entry)) ≡ true) ⌝ }
 {
     let rows = all_rows();
     read_from(&rows, s, false)

@@ -1,9 +1,10 @@
 -- What is wrong with a value that is no run, test by test.
-use mathlib.Core.Path.{_≡_, refl}
+use mathlib.Core.Path.{_≡_, refl, sym, ap, _∙_}
 use mathlib.Core.Bool.{Bool, true, false, not}
 use mathlib.Core.List.{[], _∷_}
 use mathlib.Core.Option.{Option, none}
-use Prim.Native.Nat.{ℕ, _-_, _≤_, _<_}
+use Prim.Native.Nat.{ℕ, zero, suc, _-_, _/_, _%_, _≤_, _<_}
+use lib.Dec.{leb, eqb}
 use native.Mathlib.Omega.{arith}
 use borrow.Author.Tests.{not-true, not-false, lt-ltb, le-ltb, le-leb, lt-leb}
 use lib.ListN.{length, getD, take, drop}
@@ -11,9 +12,11 @@ use Rattle.model.specs.Choice.{orThen, unless}
 use Rattle.model.specs.Number.{Bytes}
 use Rattle.model.specs.Text.{isText}
 use Rattle.model.specs.Order.{compareBytes, isBelow, ordering}
-use Rattle.model.specs.Shape.{below, mapKey, textFault, ascends, isBelowByte, leafFault}
+use Rattle.model.specs.Shape.{below, mapKey, nodeSet, textFault, ascends, isBelowByte, leafFault}
+use Rattle.model.specs.Nodes.{nodesOf, noRepeats}
 use Rattle.model.specs.declared.Order.{Order}
-use Rattle.shape_faults.specs.Walk.{priorKey, PriorIn, limitFault}
+use Rattle.laws.specs.Choice.{orThen-left, orThen-right}
+use Rattle.shape_faults.specs.Walk.{priorKey, PriorIn, limitFault, listFault}
 use Rattle.shape_faults.specs.declared.Prior.{Prior}
 use Rattle.shape_faults.proofs.Parts.{part-slice}
 
@@ -71,3 +74,32 @@ module _ (bound : ℕ) where
   below-wrong [] x h e k = absurd (omega arith)
   below-wrong (b ∷ []) x h e k = rw (← e, le-ltb _ _ k)
   below-wrong (b ∷ c ∷ v) x h e k = absurd (omega arith)
+
+-- 4. Lists of nodes without a repeat
+
+module _ (v : Bytes) (limit : ℕ) {f : ℕ} (ef : f ≡ listFault (length v) 8 limit) where
+  abbrev ragged : ℕ
+  ragged = unless (eqb (length v % 8) 0) 4
+
+  abbrev over : ℕ
+  over = unless (leb (length v / 8) limit) 5
+
+  pub set-long : (f ≡ 0 → ⊥) → f ≡ leafFault none (nodeSet limit) v
+  unfolding leafFault
+  set-long h = ef ∙ go ragged over (unless (noRepeats (nodesOf v)) 20) (λ e. h (ef ∙ e))
+    where
+      go : (a b c : ℕ) → (orThen a b ≡ 0 → ⊥) → orThen a b ≡ orThen a (orThen b c)
+      go zero zero c k = absurd (k refl)
+      go zero (suc b) c k = refl
+      go (suc a) b c k = refl
+
+  module _ (h : f ≡ 0) {b : Bool} (eb : b ≡ noRepeats (nodesOf v)) where
+    set-left : unless b 20 ≡ leafFault none (nodeSet limit) v
+    unfolding leafFault
+    set-left = rw (orThen-left ragged over (sym ef ∙ h), orThen-right ragged over (sym ef ∙ h), ← eb)
+
+    pub set-apart : b ≡ true → 0 ≡ leafFault none (nodeSet limit) v
+    set-apart t = ap (λ x. unless x 20) (sym t) ∙ set-left
+
+    pub set-repeated : b ≡ false → 20 ≡ leafFault none (nodeSet limit) v
+    set-repeated t = ap (λ x. unless x 20) (sym t) ∙ set-left

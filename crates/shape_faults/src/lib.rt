@@ -4,6 +4,7 @@ use fields::Found;
 use fields::Step;
 use model::Order;
 use model::refusals::OVER_A_LIMIT;
+use model::refusals::REPEATED;
 use model::refusals::WRONG;
 use reader::field;
 use shapes::form_in;
@@ -17,7 +18,7 @@ ghost use mathlib.Core.Option.{none};
 ghost use Prim.Native.Nat.{_+_, _<_, _≤_, _^_};
 ghost use lib.ListN.{length};
 ghost use lib.Seq.{slice};
-ghost use Rattle.model.specs.Shape.{start as nothing, textFault, leafFault, countFault, runFault, below, mapKey, ascends as isAbove};
+ghost use Rattle.model.specs.Shape.{start as nothing, textFault, leafFault, countFault, runFault, below, mapKey, nodeSet, ascends as isAbove};
 ghost use Rattle.model.specs.Record.{gathered};
 ghost use Rattle.shapes.specs.Table.{table, rowCount, formIn, sizeIn, formOf, presenceOf, rowsFrom};
 ghost use Rattle.fields.specs.Fields.{fieldsFrom, Inside};
@@ -29,7 +30,7 @@ const NO_TEXT: u8 = WRONG;
 const OUT_OF_ORDER: u8 = WRONG;
 
 // The form of a run of a shape's fields.
-const NESTED: u32 = 7;
+const NESTED: u32 = 8;
 
 // Where the key of the element before stands. There is none where the start is above the end.
 pub struct Prior {
@@ -110,6 +111,20 @@ fn list_fault(len: usize, width: usize, limit: usize) -> u8
     limit_fault(len / width, limit)
 }
 
+// What is wrong with a list of nodes that holds none twice: its length, then a repeat.
+fn set_fault(v: &[u8], limit: usize) -> u8
+    ensures { λ r. ⌜ r ≡ leafFault none (nodeSet limit) (now (v .entry)) ⌝ }
+{
+    let f = list_fault(v.len(), 8, limit);
+    if f != 0 {
+        return f;
+    }
+    if nodes::apart_in(v) {
+        return 0;
+    }
+    REPEATED
+}
+
 // What is wrong with a byte that has a bound.
 fn below_fault(v: &[u8], bound: usize) -> u8
     ensures { λ r. ⌜ r ≡ leafFault none (below bound) (now (v .entry)) ⌝ }
@@ -137,6 +152,7 @@ fn leaf_fault(s: &[u8], prior: Prior, form: u32, size: usize, from: usize, to: u
         4 => limit_fault(len, size),
         5 => list_fault(len, 8, size),
         6 => list_fault(len, 16, size),
+        7 => set_fault(&s[from..to], size),
         _ => WRONG,
     }
 }

@@ -23,7 +23,7 @@ use Rattle.shapes.specs.Table.{rowCount, baseOf, lastRequired, table, fo
 
 -- the size of a run's row is its shape's base
 sizeRight : ℕ → Bool
-sizeRight row = ltb (formIn row) 7 || eqb (sizeIn row) (baseOf (shapeAt (sizeIn row)))
+sizeRight row = ltb (formIn row) 8 || eqb (sizeIn row) (baseOf (shapeAt (sizeIn row)))
 
 sizes-right : every sizeRight table ≡ true
 unfolding sizeRight rowsOf baseOf Table.table Table.shapes Table.packShape Table.packRows lastRequired Table.formCode Table.formSize Table.howOften shapeAt
@@ -38,12 +38,12 @@ table-length : length table ≡ rowCount
 unfolding rowsOf Table.table Table.shapes Table.packShape Table.packRows
 table-length = refl
 
-pub run-base : (i : ℕ) → i < rowCount → 7 ≤ formIn (numberAt i) → sizeIn (numberAt i) ≡ baseOf (shapeAt (sizeIn (numberAt i)))
+pub run-base : (i : ℕ) → i < rowCount → 8 ≤ formIn (numberAt i) → sizeIn (numberAt i) ≡ baseOf (shapeAt (sizeIn (numberAt i)))
 unfolding sizeRight
 run-base i k h =
     let row = numberAt i in
     let t = every-at sizeRight table i sizes-right (omega (arith, table-length)) in
-    eqb-true (sizeIn row) (baseOf (shapeAt (sizeIn row))) (rw (le-ltb (formIn row) 7 h) at t)
+    eqb-true (sizeIn row) (baseOf (shapeAt (sizeIn row))) (rw (le-ltb (formIn row) 8 h) at t)
 
 -- 2. Required tags
 

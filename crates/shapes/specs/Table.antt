@@ -8,7 +8,7 @@ use lib.ListN.{length, getD}
 use lib.Seq.{slice}
 use Rattle.model.specs.Choice.{given, joined}
 use Rattle.model.specs.Kind.{kindOf}
-use Rattle.model.specs.Shape.{Shape, recordOf, storedTopic, endpoint, approval, entity, pair, feature, Form, fixed, below, text, mapKey, raw, list, nested, Presence, required, optional, upTo, Row, rowsOf, isRequired, Source, shapeOf}
+use Rattle.model.specs.Shape.{Shape, recordOf, storedTopic, endpoint, approval, entity, pair, feature, Form, fixed, below, text, mapKey, raw, list, nodeSet, nested, Presence, required, optional, upTo, Row, rowsOf, isRequired, Source, shapeOf}
 use Rattle.model.specs.declared.Kind.the-variants.{Topic, Partition, BrokerRegistration, DeleteTopic, TopicConfig, BrokerConfig, ClientQuota, ProducerIds, UnregisterBroker, KRaftVersion, FeatureLevel, ClientMetricsConfig, FeaturesEpoch}
 use Rattle.model.specs.declared.Kind.the-variants.{PartitionDirAssignment, PartitionOffsetAdvance, GroupConfig, ControllerRegistration, TopicFreeze, BreakGlassProposal, DeleteBreakGlassProposal, PartitionElr, PartitionRecovery, PartitionUpdate, BrokerRegistrationChange, UnregisterController}
 
@@ -58,7 +58,8 @@ formCode (text limit) = 2
 formCode (mapKey limit) = 3
 formCode (raw limit) = 4
 formCode (list width limit) = cond (eqb width 8) 5 6
-formCode (nested s) = 7
+formCode (nodeSet limit) = 7
+formCode (nested s) = 8
 
 unfoldable pub formSize : Form → ℕ
 formSize (fixed width) = width
@@ -67,6 +68,7 @@ formSize (text limit) = limit
 formSize (mapKey limit) = limit
 formSize (raw limit) = limit
 formSize (list width limit) = limit
+formSize (nodeSet limit) = limit
 formSize (nested s) = baseOf s
 
 unfoldable pub howOften : Presence → ℕ
@@ -130,7 +132,7 @@ formOf code size =
     (cond (eqb code 1) (below size)
     (cond (eqb code 2) (text size)
     (cond (eqb code 3) (mapKey size)
-    (cond (eqb code 4) (raw size) (cond (eqb code 5) (list 8 size) (cond (eqb code 6) (list 16 size) (nested (shapeAt size))))))))
+    (cond (eqb code 4) (raw size) (cond (eqb code 5) (list 8 size) (cond (eqb code 6) (list 16 size) (cond (eqb code 7) (nodeSet size) (nested (shapeAt size)))))))))
 
 unfoldable pub presenceOf : ℕ → Presence
 presenceOf many = cond (eqb many 0) required (cond (eqb many 1) optional (upTo many))

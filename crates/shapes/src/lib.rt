@@ -13,8 +13,8 @@ pub const ROW_COUNT: usize = 149;
 const STORED_TOPIC: usize = 123;
 
 // Hexadecimal: form, size, the greatest required tag before, how often.
-// Form: 0 a fixed width, 1 a byte below the size, 2 a string, 3 a map's key, 4 bytes, 5 node ids, 6 ids, 7 a run of the shape whose base the
-// size is. How often: 0 once, 1 at most once, else up to so many times.
+// Form: 0 a fixed width, 1 a byte below the size, 2 a string, 3 a map's key, 4 bytes, 5 node ids, 6 ids, 7 node ids without a repeat, 8 a run of the shape
+// whose base the size is. How often: 0 once, 1 at most once, else up to so many times.
 // Before a shape's rows stands one with the number of its fields and its greatest required tag.
 const ROWS: [u32; 149] = [
     // 1 Topic
@@ -28,7 +28,7 @@ const ROWS: [u32; 149] = [
     0x2_0ff_00_00, // topic
     0x0_004_01_00, // partition
     0x0_008_02_00, // leader
-    0x5_040_03_00, // replicas
+    0x7_040_03_00, // replicas
     0x5_040_04_00, // isr
     0x0_004_05_00, // leader_epoch
     0x5_040_06_00, // adding_replicas
@@ -43,19 +43,19 @@ const ROWS: [u32; 149] = [
     0x2_0ff_03_00, // host
     0x0_002_04_00, // port
     0x2_0ff_05_01, // rack
-    0x7_081_05_10, // endpoints
+    0x8_081_05_10, // endpoints
     0x6_040_05_00, // log_dirs
     0x1_002_08_00, // fenced
     0x1_002_09_00, // in_controlled_shutdown
     0x6_040_0a_01, // cordoned_log_dirs
-    0x7_091_0a_40, // features
+    0x8_091_0a_40, // features
     // 4 DeleteTopic
     0x0_001_01_00, // 1 fields
     0x2_0ff_00_00, // name
     // 5 TopicConfig
     0x0_002_01_00, // 2 fields
     0x2_0ff_00_00, // topic
-    0x7_08e_01_40, // overrides
+    0x8_08e_01_40, // overrides
     // 6 BrokerConfig
     0x0_003_02_00, // 3 fields
     0x0_008_00_00, // node_id
@@ -63,7 +63,7 @@ const ROWS: [u32; 149] = [
     0x2_0ff_02_01, // config_value
     // 7 ClientQuota
     0x0_003_02_00, // 3 fields
-    0x7_08b_00_08, // entity
+    0x8_08b_00_08, // entity
     0x2_0ff_00_00, // config_key
     0x0_008_02_01, // config_value
     // 8 ProducerIds
@@ -85,7 +85,7 @@ const ROWS: [u32; 149] = [
     // 12 ClientMetricsConfig
     0x0_002_01_00, // 2 fields
     0x2_0ff_00_00, // name
-    0x7_08e_01_40, // configs
+    0x8_08e_01_40, // configs
     // 13 FeaturesEpoch
     0x0_001_01_00, // 1 fields
     0x0_008_00_00, // epoch
@@ -103,14 +103,14 @@ const ROWS: [u32; 149] = [
     // 16 GroupConfig
     0x0_002_01_00, // 2 fields
     0x2_0ff_00_00, // group_id
-    0x7_08e_01_40, // configs
+    0x8_08e_01_40, // configs
     // 17 ControllerRegistration
     0x0_005_03_00, // 5 fields
     0x0_008_00_00, // node_id
     0x0_010_01_00, // incarnation_id
     0x1_002_02_00, // zk_migration_ready
-    0x7_081_03_10, // endpoints
-    0x7_091_03_40, // features
+    0x8_081_03_10, // endpoints
+    0x8_091_03_40, // features
     // 18 TopicFreeze
     0x0_009_09_00, // 9 fields
     0x2_0ff_00_00, // scope
@@ -131,7 +131,7 @@ const ROWS: [u32; 149] = [
     0x2_0ff_04_00, // reason
     0x0_008_05_00, // created_at_ms
     0x0_008_06_00, // expires_at_ms
-    0x7_086_07_10, // approvals
+    0x8_086_07_10, // approvals
     0x0_008_07_00, // consumed_at_ms
     0x1_002_09_00, // withdrawn
     // 20 DeleteBreakGlassProposal
@@ -150,7 +150,7 @@ const ROWS: [u32; 149] = [
     0x1_002_02_00, // state
     // 23 PartitionUpdate
     0x0_004_01_00, // 4 fields
-    0x7_005_00_00, // partition
+    0x8_005_00_00, // partition
     0x5_040_01_01, // eligible_leader_replicas
     0x5_040_01_01, // last_known_elr
     0x1_002_01_01, // recovery_state

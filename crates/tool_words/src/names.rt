@@ -99,6 +99,7 @@ pub fn say_verdict(number: u8) -> bool {
         the offset leaves its range\n\
         no room\n\
         the output is too short\n\
+        a node twice in the replicas\n\
         no verdict",
         number,
     )

@@ -10,10 +10,12 @@ pub mod histories;
 pub mod images;
 mod inputs;
 mod program;
+mod replicas;
 pub mod timing;
 mod typical;
 
 pub use entry::*;
 pub use inputs::Inputs;
 pub use program::{Asked, Compared, Comparison, Help};
+pub use replicas::replica_lists;
 pub use typical::typical;

@@ -21,13 +21,15 @@ fn topic() -> Vec<u8> {
     field(1, &run(&fields))
 }
 
-fn partition() -> Vec<u8> {
+/// A partition whose replicas are all in sync.
+fn partition(replicas: u64) -> Vec<u8> {
+    let nodes: Vec<u8> = (1..=replicas).flat_map(u64::to_be_bytes).collect();
     let fields: [(u8, &[u8]); 10] = [
         (1, b"plan-1"),
         (2, &[0; 4]),
         (3, &[0; 8]),
-        (4, &[0; 24]),
-        (5, &[0; 24]),
+        (4, &nodes),
+        (5, &nodes),
         (6, &[0; 4]),
         (7, &[]),
         (8, &[]),
@@ -69,12 +71,13 @@ fn config() -> Vec<u8> {
     field(5, &[field(1, b"plan-1"), elements(2, 8, pair)].concat())
 }
 
-/// A topic, a partition with 3 replicas, a broker with 2 endpoints and 4
-/// features, and a config of 8 pairs, by name.
-pub fn typical() -> [(&'static str, Vec<u8>); 4] {
+/// A topic, partitions with 3 and with 64 replicas, a broker with 2 endpoints
+/// and 4 features, and a config of 8 pairs, by name.
+pub fn typical() -> [(&'static str, Vec<u8>); 5] {
     [
         ("topic", topic()),
-        ("partition, 3 replicas", partition()),
+        ("partition, 3 replicas", partition(3)),
+        ("partition, 64 replicas", partition(64)),
         ("broker, 2 endpoints, 4 features", broker()),
         ("config, 8 pairs", config()),
     ]

@@ -3,6 +3,7 @@
 //!
 //!     cargo run --manifest-path harness/Cargo.toml --example read_vectors -- crates/test_read
 
+use oracle::facts::build::partition_record;
 use oracle::generate::{Generator, Knobs};
 use oracle::stored::Stored;
 use wire::{Random, damaged, encoded, field, read};
@@ -42,7 +43,7 @@ fn inputs() -> Vec<Vec<u8>> {
     inputs
 }
 
-/// Empty and cut headers, unknown kinds, lengths that lie, the longest body, map order, and limits.
+/// Empty and cut headers, unknown kinds, lengths that lie, the longest body, map order, limits, and replica lists.
 fn edges() -> Vec<Vec<u8>> {
     let level: &[u8] = &[11, 0, 9, 1, 0, 1, b'a', 2, 0, 2, 0, 1];
     let mut edges: Vec<Vec<u8>> = (0..=level.len()).map(|n| level[..n].to_vec()).collect();
@@ -83,6 +84,11 @@ fn edges() -> Vec<Vec<u8>> {
         7,
         &(0..9).map(|_| (1, field(1, b"user"))).collect::<Vec<_>>(),
     ));
+    let most: Vec<u64> = (1..=64).collect();
+    let (again, many) = ([&most[..63], &[1]].concat(), [&most[..], &[1]].concat());
+    for replicas in [&[1, 2][..], &[1, 1], &[1, 2, 1], &most, &again, &many] {
+        edges.push(encoded(&partition_record("p", 0, replicas)));
+    }
     let mut longest = vec![2, 0xff, 0xff];
     longest.resize(3 + 65_535, 0);
     edges.push(longest);

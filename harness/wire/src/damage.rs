@@ -14,7 +14,7 @@ pub fn damaged(random: &mut Random, good: &[u8]) -> Vec<u8> {
     let mut bytes = good.to_vec();
     let places = places(good);
     let field = &places[random.below(places.len())];
-    match random.below(9) {
+    match random.below(10) {
         0 => cut(random, &mut bytes),
         1 => change_byte(random, &mut bytes),
         2 => change_length(random, &mut bytes, field),
@@ -23,9 +23,19 @@ pub fn damaged(random: &mut Random, good: &[u8]) -> Vec<u8> {
         5 => repeat(random, &mut bytes, field),
         6 => replace(&mut bytes, field.start..field.end, &[], &field.lengths),
         7 => insert(random, &mut bytes, field),
+        8 => repeat_element(&mut bytes, field),
         _ => append(random, &mut bytes),
     }
     bytes
+}
+
+/// The last eight bytes of a value become its first eight, so that a list of
+/// nodes has one twice.
+fn repeat_element(bytes: &mut [u8], field: &Place) {
+    let first = field.start + HEADER;
+    if first + 16 <= field.end {
+        bytes.copy_within(first..first + 8, field.end - 8);
+    }
 }
 
 /// Where a field stands, from its tag to its value's end, and the places of the

@@ -17,6 +17,6 @@ pub use decode::decode;
 pub use encode::{encode, encoded, encoded_all, field};
 pub use hex::hex;
 pub use random::Random;
-pub use read::{HEADER, OVER_A_LIMIT, PAST_THE_END, UNKNOWN_KIND, WRONG_FIELD, read};
+pub use read::{HEADER, OVER_A_LIMIT, PAST_THE_END, REPEATED, UNKNOWN_KIND, WRONG_FIELD, read};
 pub use run::Run;
 pub use write::{Lists, TOO_SHORT, write};

@@ -11,6 +11,8 @@ pub const UNKNOWN_KIND: u8 = 3;
 pub const WRONG_FIELD: u8 = 4;
 /// A field is over its limit.
 pub const OVER_A_LIMIT: u8 = 5;
+/// A node stands twice in the replicas.
+pub const REPEATED: u8 = 20;
 
 /// The bytes before a record's body or a field's value: the kind or tag, and
 /// the length.
@@ -54,6 +56,7 @@ pub(crate) fn check_run<'a>(
             Key => own_key = Some(check_key(value, row.size, key_before)?),
             Bytes => within(value.len(), row.size)?,
             Nodes => check_list(value, 8, row.size)?,
+            NodeSet => check_set(value, row.size)?,
             Ids => check_list(value, 16, row.size)?,
             Nested(shape) => element_key = check_run(shape.rows, value, element_key)?,
         }
@@ -106,6 +109,17 @@ fn check_key<'a>(key: &'a [u8], limit: usize, before: Option<&[u8]>) -> Result<&
 fn check_list(value: &[u8], width: usize, limit: usize) -> Result<(), u8> {
     well_formed(value.len().is_multiple_of(width))?;
     within(value.len() / width, limit)
+}
+
+/// Nodes, none of which comes twice; that is checked last.
+fn check_set(value: &[u8], limit: usize) -> Result<(), u8> {
+    check_list(value, 8, limit)?;
+    let (nodes, _) = value.as_chunks::<8>();
+    let comes_again = |(place, node)| nodes[..place].contains(node);
+    match nodes.iter().enumerate().any(comes_again) {
+        true => Err(REPEATED),
+        false => Ok(()),
+    }
 }
 
 fn well_formed(holds: bool) -> Result<(), u8> {

@@ -20,6 +20,8 @@ pub enum Form {
     Key,
     Bytes,
     Nodes,
+    /// Nodes, none of which comes twice.
+    NodeSet,
     Ids,
     /// A run of fields by a shape of its own.
     Nested(&'static Shape),
@@ -116,7 +118,7 @@ const PARTITION: Shape = Shape {
         row(1, "topic", String, 255, Required),
         row(2, "partition", I32, 4, Required),
         row(3, "leader", U64, 8, Required),
-        row(4, "replicas", Nodes, 64, Required),
+        row(4, "replicas", NodeSet, 64, Required),
         row(5, "isr", Nodes, 64, Required),
         row(6, "leader_epoch", I32, 4, Required),
         row(7, "adding_replicas", Nodes, 64, Required),

@@ -34,7 +34,7 @@ slice-aggregate-apply-record c =
     let known = at-read .before .before .before .before in
     let start = known .before .before in
     record-length (start .args .input .now) (known-bytes (start .args .input .now) (λ i. omega (arith, known .shared-slice-known .given i)))
-    (ap replied (sym (at-n .n .given .1)) ∙ at-read .read .ensures)
+    (ap replied (sym (at-n .n .given .1)) ∙ at-read .read .ensures .0)
 
 apply-record-requires : tie.Need-apply-record-requires
 apply-record-requires c κs =
@@ -46,7 +46,7 @@ apply-record-requires c κs =
     let start = known .before .before in (
       image-is _ (start .args .input .now) (at-is-image .is-image .ensures) (at-if1 .if1 .left),
       record-logged (start .args .input .now) (known-bytes (start .args .input .now) (λ i. omega (arith, known .shared-slice-known .given i)))
-          (ap replied (sym (at-n .n .given .1)) ∙ at-read .read .ensures),
+          (ap replied (sym (at-n .n .given .1)) ∙ at-read .read .ensures .0),
     )
 
 same-length-2 : tie.Need-same-length-2
@@ -57,7 +57,7 @@ returns-2 c =
     let at-read = c .before .before .before in
     let at-if1 = at-read .before in
     let at-is-image = at-if1 .before in
-    unread _ _ (at-is-image .is-image .ensures) (at-if1 .if1 .left) (ap replied (sym (c .before .number .given .1)) ∙ at-read .read .ensures)
+    unread _ _ (at-is-image .is-image .ensures) (at-if1 .if1 .left) (ap replied (sym (c .before .number .given .1)) ∙ at-read .read .ensures .0)
 
 same-length-3 : tie.Need-same-length-3
 same-length-3 c = search needs
@@ -71,7 +71,7 @@ returns-3 c =
     let known = at-is-image .before .before in
     let start = known .before .before in
     applied _ _ (at-is-image .is-image .ensures) (at-if1 .if1 .left) (known-bytes (start .args .input .now) (λ i. omega (arith, known .shared-slice-known .given i)))
-    (ap replied (sym (at-n .n .given .1)) ∙ at-read .read .ensures) (c .before .before .apply-record .ensures)
+    (ap replied (sym (at-n .n .given .1)) ∙ at-read .read .ensures .0) (c .before .before .apply-record .ensures)
 
 pub apply-spec : {M : Type 1} → statement M
 apply-spec =

@@ -12,7 +12,7 @@ pack-requires : tie.Need-pack-requires
 pack-requires c κs = search needs
 
 returns : tie.Need-returns
-returns c = c .pack .ensures ∙ ap packed (c .before .read .ensures)
+returns c = c .pack .ensures ∙ ap packed (c .before .read .ensures .0)
 
 pub jeghatuf-read-spec : {M : Type 1} → statement M
 jeghatuf-read-spec = tie.close (tie.spec read-requires pack-requires returns)

@@ -1,6 +1,7 @@
 -- `records::read` meets its contract: it reads from the log.
 use borrow.Author.Needs.{needs}
 use Rattle.model.specs.Record.{readOf}
+use Rattle.records.proofs.Replies.{accepted-apart}
 use Rattle.records.proofs.read.Statement.{statement}
 use Rattle.records.proofs.read.Tie as tie
 
@@ -15,7 +16,7 @@ read-from-requires c κs = search needs
 
 returns : tie.Need-returns
 unfolding readOf
-returns c = c .read-from .ensures
+returns c = (c .read-from .ensures, accepted-apart _ (c .read-from .ensures))
 
 pub read-spec : {M : Type 1} → statement M
 read-spec =

@@ -28,7 +28,7 @@ bytes-in c = known-bytes (c .before .before .before .before .args .input .now) (
 
 -- Read accepts as many bytes as the record has
 used : (c : tie.After-n) → accepted (c .n .given .0 .0 ∷ []) ≡ readOf (c .before .before .before .before .before .before .before .args .input .now)
-used c = ap replied (sym (c .n .given .1)) ∙ c .before .before .read .ensures
+used c = ap replied (sym (c .n .given .1)) ∙ c .before .before .read .ensures .0
 
 slice-aggregate-step : tie.Need-slice-aggregate-step
 slice-aggregate-step c =
@@ -50,7 +50,7 @@ returns : tie.Need-returns
 returns c =
     let at-read = c .before .before .before in
     let start = at-read .before .before .before .before .before in
-    let a = start .args in next-unread (a .w .now) (a .state) (a .capacity) (a .input .now) (ap replied (sym (c .before .number .given .1)) ∙ at-read .read .ensures)
+    let a = start .args in next-unread (a .w .now) (a .state) (a .capacity) (a .input .now) (ap replied (sym (c .before .number .given .1)) ∙ at-read .read .ensures .0)
 
 same-length : tie.Need-same-length
 same-length c = search needs

@@ -56,6 +56,18 @@ list-fault-requires c κs = search needs
 list-fault-requires-2 : tie.Need-list-fault-requires-2
 list-fault-requires-2 c κs = search needs
 
+sub-set-fault : tie.Need-sub-set-fault
+sub-set-fault c = search needs
+
+part-set-fault-start : tie.Need-part-set-fault-start
+part-set-fault-start c = search needs
+
+part-set-fault-end : tie.Need-part-set-fault-end
+part-set-fault-end c = search needs
+
+set-fault-requires : tie.Need-set-fault-requires
+set-fault-requires c κs = search needs
+
 returns : tie.Need-returns
 unfolding leafFault formOf
 returns c =
@@ -107,8 +119,15 @@ returns-8 c =
 returns-9 : tie.Need-returns-9
 unfolding leafFault formOf
 returns-9 c =
+    let b = c .before .before .before .before in
+    rw (c .before .before .match .keys8, ← part-slice (b .args .s .now) (b .args .from) (b .args .to) (b .pre .1) (b .pre .2)) (c .set-fault .ensures)
+
+returns-10 : tie.Need-returns-10
+unfolding leafFault formOf
+returns-10 c =
     let past = c .match .rest in
     rw (
+      ne-eqb _ _ (past .0 .0 .0 .0 .0 .0 .0 .1),
       ne-eqb _ _ (past .0 .0 .0 .0 .0 .0 .1),
       ne-eqb _ _ (past .0 .0 .0 .0 .0 .1),
       ne-eqb _ _ (past .0 .0 .0 .0 .1),
@@ -138,6 +157,10 @@ leaf-fault-spec =
     limit-fault-requires
     list-fault-requires
     list-fault-requires-2
+    sub-set-fault
+    part-set-fault-start
+    part-set-fault-end
+    set-fault-requires
     returns
     returns-2
     returns-3
@@ -146,4 +169,5 @@ leaf-fault-spec =
     returns-6
     returns-7
     returns-8
-    returns-9)
+    returns-9
+    returns-10)

@@ -50,7 +50,7 @@ slice-aggregate-judge c =
     let at-shared-slice-known2 = at-read .before .before .before in
     let start = at-shared-slice-known2 .before .before in
     record-length (start .args .input .now) (known-bytes (start .args .input .now) (λ i. omega (arith, at-shared-slice-known2 .shared-slice-known2 .given i)))
-    (ap replied (sym (at-n .n .given .1)) ∙ at-read .read .ensures)
+    (ap replied (sym (at-n .n .given .1)) ∙ at-read .read .ensures .0)
 
 judge-requires : tie.Need-judge-requires
 judge-requires c κs =
@@ -61,7 +61,7 @@ judge-requires c κs =
     let r = c .before .before .reals-end .ensures in (
       lent-entries _ r,
       record-logged (start .args .input .now) (known-bytes (start .args .input .now) (λ i. omega (arith, at-shared-slice-known2 .shared-slice-known2 .given i)))
-          (ap replied (sym (at-n .n .given .1)) ∙ at-read .read .ensures),
+          (ap replied (sym (at-n .n .given .1)) ∙ at-read .read .ensures .0),
     )
 
 returns-2 : tie.Need-returns-2
@@ -70,7 +70,7 @@ returns-2 c =
     let at-if1 = at-read .before in
     let at-is-image = at-if1 .before in
     let start = at-is-image .before .before .before in
-    read-refused (start .args .image .now) (start .args .input .now) (at-is-image .is-image .ensures) (at-if1 .if1 .left) (ap replied (sym (c .before .number .given .1)) ∙ at-read .read .ensures)
+    read-refused (start .args .image .now) (start .args .input .now) (at-is-image .is-image .ensures) (at-if1 .if1 .left) (ap replied (sym (c .before .number .given .1)) ∙ at-read .read .ensures .0)
 
 returns-3 : tie.Need-returns-3
 returns-3 c =
@@ -83,7 +83,7 @@ returns-3 c =
     let start = at-shared-slice-known2 .before .before in
     judged (start .args .image .now) (start .args .input .now) (at-is-image .is-image .ensures) (at-if1 .if1 .left)
     (known-bytes (start .args .input .now) (λ i. omega (arith, at-shared-slice-known2 .shared-slice-known2 .given i)))
-    (ap replied (sym (at-n .n .given .1)) ∙ at-read .read .ensures) (at-reals-end .reals-end .ensures) (c .judge .ensures)
+    (ap replied (sym (at-n .n .given .1)) ∙ at-read .read .ensures .0) (at-reals-end .reals-end .ensures) (c .judge .ensures)
 
 pub validate-spec : {M : Type 1} → statement M
 validate-spec =

@@ -21,6 +21,8 @@ const GROUPS: u64 = 4_672;
 /// 64 replicas and 64 other nodes being added.
 const MOVING: i32 = 695;
 const WIDE: i32 = 60;
+/// As many partitions of 64 replicas.
+const REPLICATED: i32 = 110;
 /// The printable ASCII characters that are no space, and the first of them.
 const CHARACTERS: u64 = 94;
 const FIRST: u64 = 33;
@@ -59,6 +61,13 @@ pub fn measure(full: &Full) -> Vec<Worst> {
             ),
         ),
         Worst::of(
+            "exact test",
+            changes::exact(
+                "exact test, 110 partitions of 64 replicas",
+                &partitions(REPLICATED, &all(1, 64), &[]).1,
+            ),
+        ),
+        Worst::of(
             "Restore",
             restored(
                 CAPACITY,
@@ -93,6 +102,12 @@ pub fn measure(full: &Full) -> Vec<Worst> {
 
 /// The short count of partitions that are on the move.
 fn moving(name: &'static str, count: i32, replicas: &[u64], adding: &[u64]) -> Timed {
+    let (subject, bytes) = partitions(count, replicas, adding);
+    lookups::shorts(name, &bytes, &subject.image)
+}
+
+/// An image of partitions alone, and its bytes.
+fn partitions(count: i32, replicas: &[u64], adding: &[u64]) -> (Subject, Vec<u8>) {
     let record = |number| {
         MetadataRecord::V1Partition(PartitionRecord {
             adding_replicas: nodes(adding),
@@ -103,7 +118,7 @@ fn moving(name: &'static str, count: i32, replicas: &[u64], adding: &[u64]) -> T
     let records: Vec<_> = (0..count).map(record).collect();
     let subject = Subject::of(&records);
     let bytes = image(&subject.observed, CAPACITY).expect("partitions that fit");
-    lookups::shorts(name, &bytes, &subject.image)
+    (subject, bytes)
 }
 
 fn all(first: u64, last: u64) -> Vec<u64> {

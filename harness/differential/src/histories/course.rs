@@ -52,7 +52,7 @@ impl Course {
         let validate = self.reference.verdict(input);
         let number = crate::validate(&self.buffer, input);
         expect(tally, "Validate", number, validate)?;
-        let judged = validate > wire::OVER_A_LIMIT;
+        let judged = validate != 0 && wire::read(input).is_ok();
         let apply = match validated && judged {
             true => None,
             false => Some(self.apply(tally, input)?),

@@ -14,6 +14,8 @@ use crate::images::{Compared, Tally, knobs};
 const STEPS: usize = 60;
 /// A record in so many is followed by damaged copies of it.
 const DAMAGED: usize = 6;
+/// A list has at most so many nodes.
+const MOST_NODES: usize = 64;
 /// An offset in so many goes to an end of i64, or just beyond.
 const TO_AN_END: usize = 4;
 
@@ -87,8 +89,9 @@ fn to_an_end(random: &mut Random, image: &MetadataImage, record: &mut MetadataRe
     }
 }
 
-/// A record, and for some of them copies: cut, with one byte changed, and with
-/// any damage. Some of these are records too.
+/// A record, and for some of them copies: cut, with one byte changed, with any
+/// damage, and of a partition with a node twice in the replicas. Some of these
+/// are records too, but never the last.
 fn inputs(random: &mut Random, record: &MetadataRecord) -> Vec<Vec<u8>> {
     let bytes = encoded(record);
     if random.below(DAMAGED) != 0 {
@@ -98,5 +101,24 @@ fn inputs(random: &mut Random, record: &MetadataRecord) -> Vec<Vec<u8>> {
     let mut changed = bytes.clone();
     changed[random.below(bytes.len())] = random.byte();
     let any = damaged(random, &bytes);
-    vec![bytes, cut, changed, any]
+    let repeated = repeated(random, record.clone());
+    let repeated = repeated.map(|record| encoded(&record));
+    [bytes, cut, changed, any]
+        .into_iter()
+        .chain(repeated)
+        .collect()
+}
+
+/// A partition with one of its nodes once more, at the end of its replicas.
+fn repeated(random: &mut Random, mut record: MetadataRecord) -> Option<MetadataRecord> {
+    let replicas = match &mut record {
+        MetadataRecord::V1Partition(partition) => &mut partition.replicas,
+        MetadataRecord::V1PartitionUpdate(update) => &mut update.partition.replicas,
+        _ => return None,
+    };
+    if replicas.is_empty() || replicas.len() == MOST_NODES {
+        return None;
+    }
+    replicas.push(replicas[random.below(replicas.len())]);
+    Some(record)
 }

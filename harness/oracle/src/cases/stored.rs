@@ -10,14 +10,15 @@ use super::samples::all_kinds;
 use super::{Cases, applied};
 use crate::facts::build::{
     delete_topic, dir_assignment, elr, feature_level, features_epoch, freeze, group_config, id,
-    kraft_version, metrics_config, offset_advance, partition, producer_ids, quota, recovered,
-    recovering, thaw, topic_config,
+    kraft_version, metrics_config, nodes, offset_advance, partition, partition_record,
+    producer_ids, quota, recovered, recovering, thaw, topic_config,
 };
 
 pub fn add(cases: &mut Cases) {
     values(cases);
     without_a_topic(cases);
     kinds(cases);
+    replicas(cases);
     unreadable(cases);
 }
 
@@ -95,6 +96,34 @@ fn without_a_topic(cases: &mut Cases) {
         cases.image(format!("kind {kind} without a topic"), alone.roomy());
     }
     cases.image("all without a topic", applied(&records).roomy());
+}
+
+/// Two replicas that differ in one byte, and the image where that byte is
+/// changed so that they meet; a repeat among 64; and repeats in other lists.
+fn replicas(cases: &mut Cases) {
+    let base = applied(&all_kinds());
+    let with = |nodes: &[u64]| {
+        let entry = encoded(&partition_record("p", 0, nodes));
+        base.clone().with(entry).roomy()
+    };
+    for bit in [0, 8, 16, 24, 32, 40, 48, 56, 63] {
+        let node = 1 << bit;
+        cases.image(format!("replicas apart in bit {bit}"), with(&[0, node]));
+        cases.no_image(format!("replicas that meet in bit {bit}"), with(&[node; 2]));
+    }
+    let many: Vec<u64> = (1..=64).collect();
+    cases.image("64 replicas", with(&many));
+    for (first, last) in [(0, 1), (0, 63), (31, 32), (62, 63)] {
+        let mut nodes = many.clone();
+        nodes[last] = nodes[first];
+        cases.no_image(format!("replicas {first} and {last} of 64"), with(&nodes));
+    }
+    let mut others = partition("p", 0, &[1, 2]);
+    others.isr = nodes(&[1, 1]);
+    others.adding_replicas = nodes(&[3, 3]);
+    others.removing_replicas = nodes(&[2, 2]);
+    let entry = encoded(&MetadataRecord::V1Partition(others));
+    cases.image("repeats beside the replicas", base.with(entry).roomy());
 }
 
 /// Kinds that are never entries, before, between and after the others.

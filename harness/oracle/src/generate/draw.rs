@@ -104,13 +104,16 @@ impl Generator {
     fn replicas(&mut self, image: &MetadataImage, topic: &str) -> Vec<NodeId> {
         if self.knobs.premises {
             let count = self.factor(topic);
-            return self.some_nodes(count as usize);
+            return self.distinct_nodes(count as usize);
         }
         match image.topic(topic) {
             Some(topic) if self.random.percent(70) => {
-                self.some_nodes(topic.replication_factor.clamp(0, 64) as usize)
+                self.distinct_nodes(topic.replication_factor.clamp(0, 64) as usize)
             }
-            _ => self.nodes(),
+            _ => {
+                let count = self.nodes().len();
+                self.distinct_nodes(count)
+            }
         }
     }
 

@@ -162,8 +162,20 @@ impl Generator {
         NodeId(self.random.pick(&NODES))
     }
 
-    pub(super) fn some_nodes(&mut self, count: usize) -> Vec<NodeId> {
-        (0..count).map(|_| self.node()).collect()
+    /// Nodes for a replica list: where one would come twice, another one that
+    /// no draw gives stands for it.
+    pub(super) fn distinct_nodes(&mut self, count: usize) -> Vec<NodeId> {
+        let mut others = (5..).map(NodeId);
+        let mut nodes = Vec::new();
+        while nodes.len() < count {
+            let drawn = self.node();
+            let node = match nodes.contains(&drawn) {
+                true => others.next().expect("an endless list"),
+                false => drawn,
+            };
+            nodes.push(node);
+        }
+        nodes
     }
 
     pub(super) fn nodes(&mut self) -> Vec<NodeId> {

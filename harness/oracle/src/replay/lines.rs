@@ -4,7 +4,7 @@ use std::collections::BTreeSet;
 
 use krabka_metadata::{MetadataRecord, NodeId};
 use wire::choices::THROTTLE_KINDS;
-use wire::{OVER_A_LIMIT, Random, WRONG_FIELD, damaged, encoded, encoded_all};
+use wire::{OVER_A_LIMIT, REPEATED, Random, WRONG_FIELD, damaged, encoded, encoded_all};
 
 use super::plan::Plan;
 use super::run::{Run, written};
@@ -198,8 +198,8 @@ impl Lines {
     /// Every kind has been accepted and applied, and every number has been an answer.
     pub fn check(&self) {
         assert_eq!(self.kinds, (1..=25).collect());
-        assert_eq!(self.verdicts, (0..=16).collect());
-        let numbers = (ACCEPTED..=OVER_A_LIMIT).chain([NO_OFFSET, NO_ROOM]);
+        assert_eq!(self.verdicts, (0..=16).chain([REPEATED]).collect());
+        let numbers = (ACCEPTED..=OVER_A_LIMIT).chain([NO_OFFSET, NO_ROOM, REPEATED]);
         assert_eq!(self.numbers, numbers.collect());
     }
 }

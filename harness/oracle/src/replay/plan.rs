@@ -5,6 +5,7 @@ use wire::{Random, damaged, encoded};
 
 use super::run::Run;
 use super::{STEP, STEP_ALWAYS};
+use crate::facts::build::partition_record;
 use crate::generate::{Generator, Knobs};
 use crate::image::{FIXED_ROOM, MOST_CAPACITY, weight};
 
@@ -122,8 +123,9 @@ fn next(generator: &mut Generator, image: &MetadataImage) -> Vec<u8> {
     }
 }
 
-/// No bytes, 2; an unknown kind, 3; a DeleteTopic without its name, 4, and with one that is too long, 5.
-fn refused() -> [Vec<u8>; 4] {
+/// No bytes, 2; an unknown kind, 3; a DeleteTopic without its name, 4, and with one that is too long, 5; a partition with a replica twice, 20.
+fn refused() -> [Vec<u8>; 5] {
     let long = [&[4, 1, 3, 1, 1, 0], [b'n'; 256].as_slice()].concat();
-    [vec![], vec![26, 0, 0], vec![4, 0, 0], long]
+    let repeated = encoded(&partition_record("p", 0, &[1, 2, 1]));
+    [vec![], vec![26, 0, 0], vec![4, 0, 0], long, repeated]
 }

@@ -1,7 +1,10 @@
 //! No bytes make the reader panic, and what it accepts has one encoding.
 
 use krabka_metadata::MetadataRecord;
-use wire::{HEADER, PAST_THE_END, Random, damaged, decode, encode, read};
+use wire::{
+    HEADER, OVER_A_LIMIT, PAST_THE_END, REPEATED, Random, UNKNOWN_KIND, WRONG_FIELD, damaged,
+    decode, encode, read,
+};
 
 use crate::samples;
 
@@ -23,7 +26,14 @@ fn holds(bytes: &[u8]) {
         }
         Err(number) => {
             assert_eq!(answer, Err(number));
-            assert!((2..=5).contains(&number), "{bytes:?}");
+            let numbers = [
+                PAST_THE_END,
+                UNKNOWN_KIND,
+                WRONG_FIELD,
+                OVER_A_LIMIT,
+                REPEATED,
+            ];
+            assert!(numbers.contains(&number), "{bytes:?}");
         }
     }
 }
@@ -67,7 +77,7 @@ fn changed_bytes_hold() {
 fn damaged_records_hold() {
     let random = &mut Random::new(1);
     let good = good();
-    let mut answers = [0; 6];
+    let mut answers = [0; 21];
     for _ in 0..2_000 {
         for bytes in &good {
             let once = damaged(random, bytes);
@@ -80,6 +90,8 @@ fn damaged_records_hold() {
     for number in [0, 2, 3, 4, 5] {
         assert!(answers[number] > 100, "{answers:?}");
     }
+    // Only one field of two kinds can have a repeat.
+    assert!(answers[usize::from(REPEATED)] > 20, "{answers:?}");
 }
 
 #[test]

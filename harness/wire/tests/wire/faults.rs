@@ -54,7 +54,7 @@ fn wrong_values(row: &Row) -> Vec<Vec<u8>> {
         Bool | Enum => vec![zeros(0), zeros(2), vec![size as u8], vec![0xFF]],
         String | Key => vec![vec![0x80], vec![0xFF; size + 1]],
         Bytes => Vec::new(),
-        Nodes => vec![zeros(1), zeros(7), zeros(9), zeros(8 * size + 1)],
+        Nodes | NodeSet => vec![zeros(1), zeros(7), zeros(9), zeros(8 * size + 1)],
         Ids => vec![zeros(8), zeros(15), zeros(17), zeros(16 * size + 8)],
         Nested(_) => vec![zeros(0), zeros(2), zeros(3)],
     }

@@ -39,6 +39,7 @@ fn page_lines() -> Vec<String> {
 fn page_line(label: &str, row: &Row) -> String {
     let form = match row.form {
         Form::Nested(shape) => shape.name.into(),
+        Form::NodeSet => "node set".into(),
         form => format!("{form:?}").to_lowercase(),
     };
     let size = match row.form {
@@ -104,7 +105,7 @@ fn has_width(form: Form, size: usize, value: &[u8]) -> bool {
         Form::Bool | Form::Enum => value.len() == 1 && usize::from(value[0]) < size,
         Form::String | Form::Key => str::from_utf8(value).is_ok(),
         Form::Bytes => !value.is_empty(),
-        Form::Nodes => list(size_of::<u64>()),
+        Form::Nodes | Form::NodeSet => list(size_of::<u64>()),
         Form::Ids => list(size_of::<u128>()),
         Form::Nested(_) => false,
     }

@@ -29,7 +29,7 @@ fn one_over(row: &Row) -> Vec<Vec<u8>> {
     }
     let length = match row.form {
         Form::String | Form::Key | Form::Bytes => row.size + 1,
-        Form::Nodes => 8 * (row.size + 1),
+        Form::Nodes | Form::NodeSet => 8 * (row.size + 1),
         Form::Ids => 16 * (row.size + 1),
         _ => return Vec::new(),
     };

@@ -50,6 +50,7 @@ fn longest_field(row: &Row, place: u8) -> Vec<u8> {
         Key => [&[place + 1][..], &[b'k'; 254]].concat(),
         String | Bytes => vec![b's'; row.size],
         Nodes => vec![0xFF; row.size * 8],
+        NodeSet => (0..row.size as u64).flat_map(u64::to_be_bytes).collect(),
         Ids => vec![0xFF; row.size * 16],
         Nested(shape) => longest(shape.rows, place),
     };

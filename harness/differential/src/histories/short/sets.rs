@@ -159,7 +159,8 @@ fn states() -> Vec<MetadataRecord> {
     ]
 }
 
-/// Slots: with fewer directories than replicas, with more, and a node twice.
+/// Slots: with fewer directories than replicas, with more; and a node twice,
+/// which is refused.
 fn directories() -> Vec<MetadataRecord> {
     let mut longer = partition("p", 0, &[1, 2]);
     longer.directories = [6, 7, 8].map(id).to_vec();
