@@ -158,6 +158,18 @@ module _ {E : Type 0} (key : E → Key) where
       go true = refl
       go false = refl
 
+  -- what is put under a key that is not kept changes nothing of what is
+  pub keep-put : (test : Key → Bool) (e : E) → test (key e) ≡ false → (l : List E) → keep key test (put key e l) ≡ keep key test l
+  unfolding keep put
+  keep-put test e out [] = rw out
+  keep-put test e out (x ∷ l) = go (compareKeys (key e) (key x)) refl (keep-put test e out l)
+    where
+      go : (o : Ordering) → compareKeys (key e) (key x) ≡ o → keep key test (put key e l) ≡ keep key test l
+          → keep key test (choose o (e ∷ x ∷ l) (e ∷ l) (x ∷ put key e l)) ≡ keep key test (x ∷ l)
+      go Ordering·lt q i = rw out
+      go Ordering·eq q i = rw (out, ← keys-total .eqv (key e) (key x) q, out)
+      go Ordering·gt q i = ap (λ m. cond (test (key x)) (x ∷ m) m) i
+
   pub put-asc : (e : E) (l : List E) → Asc l → Asc (put key e l)
   unfolding put
   put-asc e [] a = (tt, tt)

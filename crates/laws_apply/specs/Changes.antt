@@ -6,7 +6,7 @@ use mathlib.Core.Bool.{Bool, true, false, cond}
 use Prim.Native.Nat.{ℕ, zero, suc, _+_, _-_, _*_, _≤_, _<_}
 use native.Mathlib.Omega.{arith}
 use lib.Dec.{eqb, lit<}
-use lib.ListN.{length, take, drop, getElem?, replicate, length-append, length-take, length-drop, length-replicate}
+use lib.ListN.{length, take, drop, getElem?, length-append, length-take, length-drop, length-replicate}
 use Rattle.model.specs.Choice.{every, given, isEmpty}
 use Rattle.model.specs.Number.{Bytes, AreBytes, number}
 use Rattle.model.specs.Order.{sameBytes}
@@ -229,9 +229,7 @@ assigned-directories count slot id dirs few low wide b d = record {
     all = filled count dirs
 
     all-bytes : AreBytes all
-    all-bytes =
-        append-are-bytes dirs (replicate (count * idWidth - length dirs) 0) (d .areBytes)
-        (replicate-are-bytes (count * idWidth - length dirs) 0 (lit< tt))
+    all-bytes = append-are-bytes dirs _ (d .areBytes) (replicate-are-bytes (count * idWidth - length dirs) _ (lit< tt))
 
     same : length (assigned slot id all) ≡ length dirs + (count * idWidth - length dirs)
     same = let h = length-filled count dirs in length-assigned slot id all wide (omega arith) ∙ h

@@ -1,22 +1,30 @@
 -- *Downgrade*: "changed broker projections by node, then, below 17, one DirAssignment per non-`MIGRATING` slot below both lengths, by topic,
 -- partition, slot. Log dirs clear below 17, cordoned dirs below 30."
-use Prim.Native.Nat.{ℕ, zero, suc, _+_, _/_, min}
-use mathlib.Core.Bool.{Bool, cond}
-use mathlib.Core.List.{List, [], _∷_, _++_}
+use Prim.Native.Nat.{ℕ, zero, suc, _+_, _*_, _/_, min}
+use mathlib.Core.Path.{_≡_}
+use mathlib.Core.Bool.{Bool, true, false, cond, _&&_, not}
+use mathlib.Core.List.{List, [], _∷_, _++_, map}
+use mathlib.Core.Option.{Option, none, some}
 use lib.Dec.{ltb, eqb}
 use lib.ListN.{length, take, drop, replicate}
-use Rattle.model.specs.Choice.{joined}
-use Rattle.model.specs.Number.{Bytes, half, place}
-use Rattle.model.specs.Order.{sameBytes}
+use Rattle.model.specs.Choice.{isEmpty, joined}
+use Rattle.model.specs.Number.{Bytes, AreBytes, half, place}
+use Rattle.model.specs.Order.{Key, sameBytes}
 use Rattle.model.specs.Run.{Run, done, item, bytesOf, value, setField, dropField}
 use Rattle.model.specs.Kind.{kindNumber}
-use Rattle.model.specs.Record.{Rec, rec}
-use Rattle.model.specs.Contents.{Entry, topic, part, plain, Contents}
+use Rattle.model.specs.Shape.{logged}
+use Rattle.model.specs.Record.{Rec, rec, recordBytes}
+use Rattle.model.specs.Items.{itemsOf, records, isWhole}
+use Rattle.model.specs.Key.{rank, keyRank}
+use Rattle.model.specs.Map.{keep}
+use Rattle.model.specs.Contents.{Entry, topic, part, plain, key, Contents}
 use Rattle.model.specs.Image.{isImage, contentsOf}
 use Rattle.model.specs.Move.{replicas, directories, nodeWidth, idWidth, nodeCount}
+use Rattle.model.specs.Validate.{validateOf}
+use Rattle.model.specs.Apply.{applyOf}
 use Rattle.model.specs.Snapshot.{emit}
-use Rattle.model.specs.Reply.{Ended, unchanged}
-use Rattle.model.specs.declared.Kind.the-variants.{BrokerRegistration, PartitionDirAssignment}
+use Rattle.model.specs.Reply.{Ended, accepted, unchanged, emitBytes}
+use Rattle.model.specs.declared.Kind.the-variants.{Partition, BrokerRegistration, PartitionDirAssignment}
 
 -- `metadata_version.rs`: levels 17 (directories) and 30 (cordoned dirs)
 abbrev pub directoriesLevel : ℕ
@@ -65,3 +73,87 @@ downgrade level c = joined (listed level) (c .real)
 
 unfoldable pub downgradeOf : Bytes → ℕ → Bytes → Ended
 downgradeOf image level out = cond (isImage image) (emit (downgrade level (contentsOf image)) out) (unchanged 1 out)
+
+-- 02, request 9: "for every level, applying the listed records in order without a refusal leaves an image whose listing for that level is
+-- empty ... Topics, partition offsets, configs and freezes are unchanged by the pass." `crates/laws_downgrade` proves the claims below.
+
+-- 1. The pass
+
+-- records given to Apply one after the other: the image afterwards, none where one is refused
+unfoldable pub appliedAll : List Rec → Bytes → Option Bytes
+appliedAll [] image = some image
+appliedAll (r ∷ rs) image =
+    cond (eqb (applyOf image (recordBytes r) .reply .number) 0) (appliedAll rs (applyOf image (recordBytes r) .buffer)) none
+
+-- A pass under way: some of the listed records, from the first, were applied without a refusal; the image that they reached, and those left.
+pub record UnderWay (level : ℕ) (image reached : Bytes) (left : List Rec) : Type 0 where
+  pub given : List Rec
+  pub listing : downgrade level (contentsOf image) ≡ given ++ left
+  pub applied : appliedAll given image ≡ some reached
+
+-- 2. What it leaves
+
+-- of a partition: every replica's slot `MIGRATING`, directories past the replicas as they are
+abbrev pub cleared : Run → Run
+cleared p = setField 9 (replicate (nodeCount (replicas p) * idWidth) 0 ++ drop (nodeCount (replicas p) * idWidth) (directories p)) p
+
+-- of an entry: as it is, where nothing is listed for it; else a partition cleared, a broker as the level knows it
+unfoldable pub lowered : ℕ → Entry → Entry
+lowered level (topic name id count factor named) = topic name id count factor named
+lowered level (part p) = cond (isEmpty (listed level (part p))) (part p) (part (cleared p))
+lowered level (plain r) = cond (isEmpty (listed level (plain r))) (plain r) (plain (rec BrokerRegistration (project level (r .run))))
+
+abbrev pub loweredContents : ℕ → Contents → Contents
+loweredContents level c = record { real = map (lowered level) (c .real); empties = c .empties; fixed = c .fixed }
+
+-- neither a broker nor a partition
+unfoldable pub isOther : Key → Bool
+isOther k = not (eqb (keyRank k) (rank BrokerRegistration)) && not (eqb (keyRank k) (rank Partition))
+
+-- 3. The claims
+
+-- "for every level, applying the listed records in order without a refusal leaves an image whose listing for that level is empty"; the image is
+-- of the same capacity, and its contents are the lowered ones
+abbrev pub DowngradeDone : Type 0
+DowngradeDone =
+    (level : ℕ) (image after : Bytes) → AreBytes image → isImage image ≡ true →
+    appliedAll (downgrade level (contentsOf image)) image ≡ some after →
+    (downgrade level (contentsOf after) ≡ []) × (isImage after ≡ true) × (length after ≡ length image) ×
+    (contentsOf after ≡ loweredContents level (contentsOf image))
+
+-- "Topics, partition offsets, configs and freezes are unchanged by the pass": every entry that is neither a broker nor a partition, the empty
+-- groups and the fixed parts; after the pass and after each record of it, so also where a refusal stops it. What is reached is an image.
+abbrev pub DowngradeKeeps : Type 0
+DowngradeKeeps =
+    (level : ℕ) (image reached : Bytes) (left : List Rec) → AreBytes image → isImage image ≡ true → UnderWay level image reached left →
+    (isImage reached ≡ true) × (length reached ≡ length image) ×
+    (keep key isOther (contentsOf reached .real) ≡ keep key isOther (contentsOf image .real)) ×
+    (contentsOf reached .empties ≡ contentsOf image .empties) × (contentsOf reached .fixed ≡ contentsOf image .fixed)
+
+-- Validate says 0 to each listed record, at its place in the pass
+abbrev pub ListedAdmitted : Type 0
+ListedAdmitted =
+    (level : ℕ) (image reached : Bytes) (r : Rec) (left : List Rec) → AreBytes image → isImage image ≡ true →
+    UnderWay level image reached (r ∷ left) → validateOf reached (recordBytes r) ≡ accepted []
+
+-- the only refusal of a listed record, at its place in the pass, is 18, and it leaves the image that was reached
+abbrev pub OnlyRoomRefuses : Type 0
+OnlyRoomRefuses =
+    (level : ℕ) (image reached : Bytes) (r : Rec) (left : List Rec) → AreBytes image → isImage image ≡ true →
+    UnderWay level image reached (r ∷ left) → eqb (applyOf reached (recordBytes r) .reply .number) 0 ≡ false →
+    applyOf reached (recordBytes r) ≡ unchanged 18 reached
+
+-- the bytes that Downgrade writes are the listed records: Read finds these in them and nothing else
+abbrev pub ListingReadsBack : Type 0
+ListingReadsBack =
+    (level : ℕ) (image out : Bytes) → AreBytes image → isImage image ≡ true →
+    let listing = downgrade level (contentsOf image) in
+    let s = joined recordBytes listing in
+    (downgradeOf image level out ≡ emitBytes s out) × (records (itemsOf logged s) ≡ listing) × (isWhole (itemsOf logged s) ≡ true)
+
+-- and after the pass it writes nothing, whatever the output
+abbrev pub NothingWrittenAfter : Type 0
+NothingWrittenAfter =
+    (level : ℕ) (image after out : Bytes) → AreBytes image → isImage image ≡ true →
+    appliedAll (downgrade level (contentsOf image)) image ≡ some after →
+    downgradeOf after level out ≡ record { reply = accepted (0 ∷ []); buffer = out }

@@ -33,6 +33,8 @@
 -- 02's requests
 --   1, short leaves the adding replicas out ............... Nodes.outside, Lookup.expected
 --   2, no node twice in a replica list .................... Nodes.noRepeats, Shape.nodeSet, Record.replicasApart
+--   9, downgrading is done after one pass ................. Downgrade.DowngradeDone, DowngradeKeeps, ListedAdmitted, OnlyRoomRefuses,
+--                                                           Downgrade.ListingReadsBack, NothingWrittenAfter
 pub mod Choice
 pub mod Number
 pub mod Text

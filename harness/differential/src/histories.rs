@@ -1,11 +1,12 @@
 //! Compares Validate, Apply, Snapshot and Restore with the reference, step by
-//! step along whole histories, uncut and cut. A step is held to the number and
-//! to every byte of the buffer.
+//! step along whole histories, uncut and cut, and along the passes of a
+//! downgrade. A step is held to the number and to every byte of the buffer.
 
 mod course;
 mod cuts;
 mod drawn;
 mod no_image;
+mod passes;
 mod premises;
 mod reference;
 mod restart;
@@ -14,6 +15,7 @@ mod short;
 pub use cuts::compare_cuts;
 pub use drawn::compare_drawn;
 pub use no_image::compare_no_image;
+pub use passes::{compare_named_passes, compare_passes};
 pub use short::compare_short;
 
 use course::Course;

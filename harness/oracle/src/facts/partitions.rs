@@ -20,6 +20,7 @@ pub fn say(facts: &mut Facts) {
     short(facts);
     short_on_the_move(facts);
     downgrade(facts);
+    passes(facts);
 }
 
 fn assigned(replicas: &[u64], directories: &[u64], replica: u64) -> String {
@@ -194,6 +195,32 @@ fn downgrade(facts: &mut Facts) {
         facts.say(
             format!("slots that a downgrade to {level} clears"),
             slots(&image, level),
+        );
+    }
+}
+
+/// The directories after the records of a downgrade, and the replicas that are
+/// then listed again.
+fn passes(facts: &mut Facts) {
+    let cases: [(&str, &[u64], &[u64]); 5] = [
+        ("a replica listed twice", &[1, 1], &[0xD, 0xE]),
+        ("as many directories", &[1, 2], &[5, 6]),
+        ("more directories than replicas", &[1, 2], &[5, 6, 7]),
+        ("fewer directories than replicas", &[1, 2, 3], &[5]),
+        ("no directories", &[1, 2], &[]),
+    ];
+    for (what, replicas, directories) in cases {
+        let mut stored = partition("p", 0, replicas);
+        stored.directories = directories.iter().copied().map(id).collect();
+        let mut image = applied(&[MetadataRecord::V1Partition(stored)]);
+        for record in image.metadata_version_downgrade_records(16) {
+            image.apply(&record);
+        }
+        let after = numbers(&image.partition("p", 0).expect("it is stored").directories);
+        let left = slots(&image, 16);
+        facts.say(
+            format!("a pass to 16, {what}"),
+            format!("{after}, then listed {left}"),
         );
     }
 }
