@@ -127,7 +127,7 @@ unfolding cases Text.wellFormed Text.following Text.textAfter Run.parse Run.byte
     Image.flagReads Image.realOf Image.emptiesOf Image.contentsOf Image.headerOk Image.entriesOk Image.isImage Image.openOf Move.clearNamed
     Move.clearOldNamed Move.countOf Move.countPartition Move.setDirectories Move.apartFrom Move.onReal Move.onEmpties Move.bumped Move.onFixed Move.move
     Move.moves Move.fields Move.updateMoves Move.changedBroker Move.slotOf Move.directoryMoves Move.insertEntity Move.sortedEntities
-    Move.sortedQuota Move.plan Move.moved Move.overflows Validate.topicExists Validate.extends Validate.alone Validate.against
+    Move.sortedQuota Move.plan Move.moved Move.overflows Validate.lawfulName Validate.topicExists Validate.extends Validate.alone Validate.against
     Validate.judge Validate.validateOf Apply.apply Apply.applyOf Snapshot.emit Snapshot.epochRecords Snapshot.kraftRecords
     Snapshot.snapshot Snapshot.snapshotOf Snapshot.replay Snapshot.restoreOf Choice.folded Snapshot.lastFactor Snapshot.restoredFactor
     Snapshot.lastOwner Snapshot.ownerOf Snapshot.restoredEntry Snapshot.isLevel Snapshot.levels Snapshot.lessOne Snapshot.restoredEpoch

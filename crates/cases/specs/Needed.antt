@@ -138,7 +138,7 @@ unfolding returned Text.wellFormed Text.following Text.textAfter Run.parse Run.b
     Contents.storableEntry Contents.namesId Contents.namedApart Contents.sound Items.itemsFrom Items.records Items.isWhole
     Image.isCapacity Image.mark Image.header Image.entryBytes Image.imageOf Image.entryOf Image.flagReads Image.realOf Image.emptiesOf
     Image.contentsOf Image.headerOk Image.entriesOk Image.isImage Image.openOf Move.clearNamed Move.clearOldNamed Move.countOf Move.countPartition
-    Move.onReal Move.onEmpties Move.onFixed Move.move Move.moves Move.plan Move.moved Move.overflows Validate.topicExists Validate.alone
+    Move.onReal Move.onEmpties Move.onFixed Move.move Move.moves Move.plan Move.moved Move.overflows Validate.lawfulName Validate.topicExists Validate.alone
     Validate.against Validate.judge Validate.validateOf Apply.apply Apply.applyOf Snapshot.emit Snapshot.epochRecords
     Snapshot.kraftRecords Snapshot.snapshot Snapshot.snapshotOf Snapshot.replay Snapshot.restoreOf Lookup.topicByName Lookup.namedBy
     Lookup.topicById Lookup.epochOf History.run History.isCut History.uncut History.answer History.after History.cutImage History.hasId

@@ -1,4 +1,5 @@
 pub mod Scopes
+pub mod Lawful
 pub mod Logged
 pub mod Counted
 pub mod Replaced

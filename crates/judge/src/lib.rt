@@ -1,6 +1,7 @@
 // What Validate says of a record against an image's real entries.
 mod brokers;
 mod lookups;
+mod names;
 mod partitions;
 mod proposals;
 mod topics;
@@ -17,7 +18,7 @@ use model::refusals::STALE_CHANGE;
 use model::refusals::STALE_UNREGISTRATION;
 use model::refusals::UNKNOWN_KIND;
 use proposals::proposal_fault;
-use topics::topic_exists;
+use topics::topic_fault;
 use topics::unknown_nested;
 use topics::unknown_partition;
 use topics::unknown_topic;
@@ -48,7 +49,7 @@ pub fn judge(s: &[u8], rec: &[u8]) -> u8
     ensures { λ r. ⌜ r ≡ judgeOf (loggedIn (now (rec .entry))) (map entryOf (recordsIn (now (s .entry)))) ⌝ }
 {
     match rec[0] {
-        kinds::TOPIC => topic_exists(s, rec),
+        kinds::TOPIC => topic_fault(s, rec),
         kinds::PARTITION => unknown_topic(s, rec),
         kinds::BROKER_REGISTRATION => 0,
         kinds::DELETE_TOPIC => unknown_topic(s, rec),

@@ -1,7 +1,9 @@
 // Records of topics and of partitions, against the stored ones.
 use crate::lookups::find_named;
 use crate::lookups::is_stored;
+use crate::names::is_lawful;
 use crate::partitions::partitions_of;
+use crate::values::or_then;
 use crate::values::unless;
 use fields::Cursor;
 use fields::Found;
@@ -13,16 +15,18 @@ use model::kinds::PARTITION;
 use model::kinds::TOPIC;
 use model::refusals::TOPIC_EXISTS;
 use model::refusals::UNKNOWN_TOPIC;
+use model::refusals::UNLAWFUL_NAME;
 use reader::field;
 ghost use mathlib.Core.Path.{_≡_};
 ghost use Prim.Native.Nat.{_≤_, _<_};
 ghost use lib.ListN.{length};
+ghost use Rattle.model.specs.Choice.{orThen, unless as unlessOf};
 ghost use Rattle.model.specs.Number.{half};
 ghost use Rattle.model.specs.Run.{runOf, value};
 ghost use Rattle.model.specs.Key.{topicKey, partitionKey};
 ghost use Rattle.model.specs.Map.{get};
 ghost use Rattle.model.specs.Contents.{key, partitions};
-ghost use Rattle.model.specs.Validate.{topicExists, unknownTopic};
+ghost use Rattle.model.specs.Validate.{lawfulName, topicExists, unknownTopic};
 ghost use Rattle.model.specs.declared.Kind.the-variants.{Partition};
 ghost use Rattle.keys.specs.Keys.{runIn};
 ghost use Rattle.entries.specs.Entries.{Entries};
@@ -103,7 +107,7 @@ fn may_replace(rec: &[u8], e: &[u8], parts: u64) -> bool
 }
 
 // Refuses a topic's record where another topic of its name is stored, or one with as many partitions.
-pub fn topic_exists(s: &[u8], rec: &[u8]) -> u8
+fn topic_exists(s: &[u8], rec: &[u8]) -> u8
     requires { ⌜ Entries (now s) × TopicFields (now rec) ⌝ }
     ensures { λ r. ⌜ r ≡ topicExists (runIn (now (rec .entry))) (partitions (value 1 (runIn (now (rec .entry)))) (entriesIn (now (s .entry)))) (get key (topicKey (value 1 (runIn (now (rec .entry))))) (entriesIn (now (s .entry)))) ⌝ }
 {
@@ -115,4 +119,17 @@ pub fn topic_exists(s: &[u8], rec: &[u8]) -> u8
     }
     let parts = partitions_of(s, rec);
     unless(may_replace(rec, &s[at..end], parts), TOPIC_EXISTS)
+}
+
+// Refuses a topic's record whose name is unlawful; then as `topic_exists`.
+pub fn topic_fault(s: &[u8], rec: &[u8]) -> u8
+    requires { ⌜ Entries (now s) × TopicFields (now rec) ⌝ }
+    ensures { λ r. ⌜ r ≡ orThen (unlessOf (lawfulName (value 1 (runIn (now (rec .entry))))) 24) (topicExists (runIn (now (rec .entry))) (partitions (value 1 (runIn (now (rec .entry)))) (entriesIn (now (s .entry)))) (get key (topicKey (value 1 (runIn (now (rec .entry))))) (entriesIn (now (s .entry))))) ⌝ }
+{
+    let p = value_at(rec, 1);
+    let start = p.start;
+    let end = p.end;
+    let unlawful = unless(is_lawful(&rec[start..end]), UNLAWFUL_NAME);
+    let exists = topic_exists(s, rec);
+    or_then(unlawful, exists)
 }

@@ -54,6 +54,11 @@ pub orThen-right : (a b : ℕ) → orThen a b ≡ 0 → b ≡ 0
 orThen-right zero b h = h
 orThen-right (suc a) b h = absurd (omega arith)
 
+-- a refusal stands before a later one
+pub orThen-first : (a b : ℕ) → (a ≡ 0 → ⊥) → a ≡ orThen a b
+orThen-first zero b h = absurd (h refl)
+orThen-first (suc a) b h = refl
+
 pub unless-true : (b : Bool) (n : ℕ) → 0 < n → unless b n ≡ 0 → b ≡ true
 unless-true true n p h = refl
 unless-true false n p h = absurd (omega arith)

@@ -10,3 +10,4 @@ pub mod Ranks
 pub mod Refused
 pub mod Freeze
 pub mod Nodes
+pub mod TopicNames

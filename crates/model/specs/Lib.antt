@@ -35,6 +35,7 @@
 --   2, no node twice in a replica list .................... Nodes.noRepeats, Shape.nodeSet, Record.replicasApart
 --   9, downgrading is done after one pass ................. Downgrade.DowngradeDone, DowngradeKeeps, ListedAdmitted, OnlyRoomRefuses,
 --                                                           Downgrade.ListingReadsBack, NothingWrittenAfter
+--   7, only names that Kafka allows ....................... Validate.lawfulName
 pub mod Choice
 pub mod Number
 pub mod Text

@@ -1,11 +1,13 @@
 -- *Validate*: "1, buffer is no image of this port; Read's; then by kind".
 use Prim.Native.Nat.{ℕ, _+_}
-use mathlib.Core.Bool.{Bool, true, false, cond, _&&_, not}
+use mathlib.Core.Bool.{Bool, true, false, cond, _&&_, _||_, not}
 use mathlib.Core.List.{List, [], _∷_}
 use mathlib.Core.Option.{Option, none, some}
-use lib.Dec.{ltb, eqb}
-use Rattle.model.specs.Choice.{orThen, unless, isSome, isEmpty}
+use lib.Dec.{leb, ltb, eqb}
+use lib.ListN.{length}
+use Rattle.model.specs.Choice.{orThen, unless, isSome, isEmpty, every}
 use Rattle.model.specs.Number.{Bytes, number, half, place}
+use Rattle.model.specs.Text.{within, to}
 use Rattle.model.specs.Order.{sameBytes}
 use Rattle.model.specs.Run.{Run, runOf, value, values}
 use Rattle.model.specs.Shape.{logged}
@@ -44,10 +46,24 @@ proposalFault f (some p) =
     orThen (unless (eqb (number (value 9 p)) 0) 14)
     (orThen (unless (not (eqb (number (value 10 p)) 1)) 15) (unless (extends (values 8 p) (values 8 f)) 16))
 
--- what the record says by itself: 13, "empty freeze scope"
+-- 02, 7: "all letters, digits, ".", "_" or "-" in ASCII"
+abbrev pub isNameByte : ℕ → Bool
+isNameByte b =
+    within (to 0x61 0x7a) b || within (to 0x41 0x5a) b || within (to 0x30 0x39) b || eqb b 0x2e || eqb b 0x5f || eqb b 0x2d
+
+abbrev pub mostName : ℕ
+mostName = 249
+
+-- 02, 7: "its name has 1 to 249 bytes, all" of these, "and is neither "." nor "..""
+unfoldable pub lawfulName : Bytes → Bool
+lawfulName name =
+    leb 1 (length name) && leb (length name) mostName && every isNameByte name && not (sameBytes name (0x2e ∷ [])) &&
+    not (sameBytes name (0x2e ∷ 0x2e ∷ []))
+
+-- what the record says by itself: 13, "empty freeze scope"; 24, "unlawful topic name"
 unfoldable pub alone : Kind → Run → ℕ
 alone TopicFreeze f = unless (not (isEmpty (value 1 f))) 13
-alone Topic f = 0
+alone Topic f = unless (lawfulName (value 1 f)) 24
 alone Partition f = 0
 alone BrokerRegistration f = 0
 alone DeleteTopic f = 0

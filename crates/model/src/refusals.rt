@@ -51,3 +51,6 @@ pub const TOO_SHORT: u8 = 19;
 
 // Read and Write: a node listed twice in the replicas, directly after 4 and 5 of that field.
 pub const REPEATED: u8 = 20;
+
+// Validate: a topic's name that is unlawful, after Read's and before 6.
+pub const UNLAWFUL_NAME: u8 = 24;

@@ -11,17 +11,13 @@ use Rattle.model.specs.Choice.{orThen, unless, given}
 use Rattle.model.specs.Number.{Bytes}
 use Rattle.model.specs.Run.{Run, done, torn, item}
 use Rattle.model.specs.Shape.{Row, Before, start, rowAt, repeats, mayFollow, keyBefore, countBefore, after, countFault, runFault}
-use Rattle.laws.specs.Choice.{impossible, orThen-left, given-some}
+use Rattle.laws.specs.Choice.{impossible, orThen-left, orThen-first, given-some}
 use Rattle.laws_records.specs.Rows.{tag-positive}
 use Rattle.laws_records.specs.Passing.{Check}
 use Rattle.shapes.specs.Table.{rowCount, formIn, sizeIn, manyIn, formOf, presenceOf, unpacked, numberAt, fieldsAt, rowsFrom}
 use Rattle.shapes.proofs.Columns.{base-fits, row-at, row-past, run-base}
 use Rattle.shape_faults.specs.Walk.{IsBase, IsRow, begun, beforeIn, presenceAt, keyOf, passed, tagFault, endFault, fieldFault}
 use Rattle.shape_faults.specs.declared.Walk.{Walk}
-
-orThen-first : (f g : ℕ) → (f ≡ 0 → ⊥) → f ≡ orThen f g
-orThen-first zero g n = absurd (n refl)
-orThen-first (suc f) g n = refl
 
 -- 1. A tag that has a row
 

@@ -24,8 +24,8 @@ use Rattle.judge.proofs.judge.Tie as tie
 shared-slice-read-match : tie.Need-shared-slice-read-match
 shared-slice-read-match c = omega (arith, headed _ (c .before .before .before .pre .1))
 
-topic-exists-requires : tie.Need-topic-exists-requires
-topic-exists-requires c κs = let p = c .before .before .before .before .pre in (p .0, topic-logged _ (p .1) (c .match .keys1))
+topic-fault-requires : tie.Need-topic-fault-requires
+topic-fault-requires c κs = let p = c .before .before .before .before .pre in (p .0, topic-logged _ (p .1) (c .match .keys1))
 
 unknown-topic-requires : tie.Need-unknown-topic-requires
 unfolding rowsOf shapeOf kindNumber
@@ -103,7 +103,7 @@ unknown-controller-requires c κs = c .before .before .before .before .before .p
 
 returns : tie.Need-returns
 unfolding alone against kindNumber
-returns c = c .topic-exists .ensures ∙ judged _ (c .before .before .before .before .before .pre .1) Topic (c .before .match .keys1) _
+returns c = c .topic-fault .ensures ∙ judged _ (c .before .before .before .before .before .pre .1) Topic (c .before .match .keys1) _
 
 returns-2 : tie.Need-returns-2
 unfolding alone against kindNumber
@@ -224,7 +224,7 @@ judge-spec =
     tie.close
     (tie.spec
     shared-slice-read-match
-    topic-exists-requires
+    topic-fault-requires
     unknown-topic-requires
     unknown-topic-requires-2
     unknown-topic-requires-3
