@@ -29,6 +29,7 @@ impl Inputs {
     fn refill(&mut self) {
         let knobs = Knobs {
             extreme: 4,
+            old_names: true,
             ..Knobs::default()
         };
         for record in Generator::new(self.seed, knobs).history(HISTORY) {

@@ -32,6 +32,7 @@ fn inputs() -> Vec<Vec<u8>> {
     let mut random = Random::beside(SEED);
     let knobs = Knobs {
         extreme: 2,
+        old_names: true,
         ..Knobs::default()
     };
     let mut inputs = edges();

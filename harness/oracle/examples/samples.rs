@@ -24,6 +24,7 @@ fn main() {
     write("damaged.records", &damaged(&plan));
     write("unmet.records", &encoded_all(&unmet()));
     write("empty.records", &[]);
+    write("unlawful.records", &encoded_all(&unlawful()));
     write(
         "quotas.records",
         &encoded_all(&[leaders(), quotas()].concat()),
@@ -49,6 +50,20 @@ fn unmet() -> Vec<MetadataRecord> {
         topic("plan-b", 7, 9, 2),
         topic("plan-a", 7, 1, 3),
         features_epoch(-5),
+    ]
+}
+
+/// A plan whose name Kafka does not allow, with its room list, and the same
+/// under a lawful name; then two dots, and the longest name and one longer.
+fn unlawful() -> Vec<MetadataRecord> {
+    vec![
+        topic("Smith/2", 7, 1, 3),
+        sheet("Smith/2", 0, 3),
+        topic("Smith-2", 7, 1, 3),
+        sheet("Smith-2", 0, 3),
+        topic("..", 8, 1, 3),
+        topic(&"n".repeat(249), 9, 1, 3),
+        topic(&"n".repeat(250), 10, 1, 3),
     ]
 }
 

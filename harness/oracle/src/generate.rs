@@ -9,23 +9,26 @@ use krabka_metadata::{MetadataImage, MetadataRecord};
 use uuid::Uuid;
 use wire::Random;
 
-use crate::verdict::{ACCEPTED, offset_leaves_i64, verdict};
+use crate::verdict::{ACCEPTED, judged, offset_leaves_i64};
 
-/// How often a record is drawn again to find one that `validate` accepts.
+/// How often a record is drawn again to find one that Validate accepts.
 const TRIES: usize = 8;
 
 #[derive(Debug, Clone, Copy)]
 pub struct Knobs {
-    /// Percent of the records that are drawn again where `validate` refuses.
+    /// Percent of the records that are drawn again where Validate refuses.
     pub accepted: u64,
     /// Percent of values at a limit or at an end of their range.
     pub extreme: u64,
-    /// Whether a history leaves out what `validate` refuses, as 01's do.
+    /// Whether a history leaves out what Validate refuses, as 01's do.
     /// Without it every record is applied: a partition may have no topic.
     pub validated: bool,
     /// Whether a validated history keeps to demand 3's premises: no shared
     /// topic id, no changed replica count, no negative epoch.
     pub premises: bool,
+    /// Whether topics have names from before 02's rule too, which Validate
+    /// refuses: for records that are applied, read or judged by themselves.
+    pub old_names: bool,
     /// How often each of the kinds 1 to 25 is drawn.
     pub weights: [u64; 25],
 }
@@ -37,6 +40,7 @@ impl Default for Knobs {
             extreme: 4,
             validated: true,
             premises: false,
+            old_names: false,
             weights: [
                 10, 16, 6, 3, 5, 9, 9, 4, 2, 2, 6, 3, 2, 6, 6, 3, 3, 7, 8, 2, 5, 5, 8, 6, 2,
             ],
@@ -48,7 +52,7 @@ impl Knobs {
     /// Whether a history applies `record` to `image`. An offset that leaves
     /// i64 is never applied: 01 refuses it and the reference may panic.
     pub fn applies(&self, image: &MetadataImage, record: &MetadataRecord) -> bool {
-        let refused = self.validated && verdict(image, record) != ACCEPTED;
+        let refused = self.validated && judged(image, record) != ACCEPTED;
         !refused && !offset_leaves_i64(image, record)
     }
 }
@@ -70,7 +74,7 @@ impl Generator {
         let wanted = self.random.percent(self.knobs.accepted);
         let mut record = self.draw(image);
         for _ in 0..TRIES {
-            if !wanted || verdict(image, &record) == ACCEPTED {
+            if !wanted || judged(image, &record) == ACCEPTED {
                 break;
             }
             record = self.draw(image);

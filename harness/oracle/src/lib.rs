@@ -11,6 +11,7 @@ pub mod generate;
 pub mod image;
 pub mod kind;
 pub mod layout;
+pub mod names;
 pub mod observe;
 pub mod order;
 pub mod replay;

@@ -2,6 +2,8 @@
 
 use krabka_metadata::{MetadataError, MetadataImage, MetadataRecord};
 
+use crate::names::is_lawful;
+
 pub const ACCEPTED: u8 = 0;
 /// The buffer is no image.
 pub const NO_IMAGE: u8 = 1;
@@ -9,6 +11,17 @@ pub const NO_IMAGE: u8 = 1;
 pub const NO_OFFSET: u8 = 17;
 /// The weight afterwards exceeds the capacity.
 pub const NO_ROOM: u8 = 18;
+/// A topic's name is unlawful.
+pub const UNLAWFUL_NAME: u8 = 24;
+
+/// Validate's number of a record: 24 by the harness's own rule on a topic's
+/// name, which the reference does not have, and else what `validate` says.
+pub fn judged(image: &MetadataImage, record: &MetadataRecord) -> u8 {
+    match record {
+        MetadataRecord::V1Topic(topic) if !is_lawful(&topic.name) => UNLAWFUL_NAME,
+        _ => verdict(image, record),
+    }
+}
 
 /// What `validate` says, as 01 numbers it: 0, or 6 to 16.
 pub fn verdict(image: &MetadataImage, record: &MetadataRecord) -> u8 {

@@ -13,10 +13,12 @@ use wire::{HEADER, decode, encode};
 const HISTORIES: u64 = 200;
 const STEPS: usize = 60;
 
-/// The contents after a history; every third history is not validated.
+/// The contents after a history; every third history is not validated, and
+/// has old names.
 fn contents(seed: u64) -> Observed {
     let knobs = Knobs {
         validated: !seed.is_multiple_of(3),
+        old_names: seed.is_multiple_of(3),
         ..Knobs::default()
     };
     let mut image = MetadataImage::new(Uuid::nil());
@@ -133,6 +135,7 @@ fn small_contents(seed: u64) -> Observed {
     let knobs = Knobs {
         extreme: 0,
         validated: false,
+        old_names: true,
         ..Knobs::default()
     };
     let records: Vec<MetadataRecord> = Generator::new(seed, knobs).history(16);

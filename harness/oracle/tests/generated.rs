@@ -5,12 +5,22 @@ use std::collections::BTreeSet;
 use krabka_metadata::{DEFAULT_BROKER_CONFIG_NODE_ID, MetadataImage, MetadataRecord, QuotaEntity};
 use oracle::generate::{Generator, Knobs};
 use oracle::kind::kind;
+use oracle::names::is_lawful;
 use oracle::observe::{same_record, same_records};
-use oracle::verdict::{ACCEPTED, offset_leaves_i64, verdict};
+use oracle::verdict::{ACCEPTED, UNLAWFUL_NAME, judged, offset_leaves_i64};
 use uuid::Uuid;
 
 const HISTORIES: u64 = 200;
 const STEPS: usize = 80;
+
+/// Histories in which every record is applied, old names among them.
+fn with_old_names() -> Knobs {
+    Knobs {
+        validated: false,
+        old_names: true,
+        ..Knobs::default()
+    }
+}
 
 /// Gives every step of every history to `look`, with the image before it.
 fn each_step(knobs: Knobs, mut look: impl FnMut(&MetadataImage, &MetadataRecord)) {
@@ -39,9 +49,9 @@ fn every_kind_is_accepted_and_every_refusal_is_met() {
     let mut verdicts = BTreeSet::new();
     let mut left = false;
     each_step(Knobs::default(), |image, record| {
-        let verdict = verdict(image, record);
-        verdicts.insert(verdict);
-        if verdict == ACCEPTED {
+        let number = judged(image, record);
+        verdicts.insert(number);
+        if number == ACCEPTED {
             kinds.extend(kind(record));
         }
         left |= offset_leaves_i64(image, record);
@@ -55,7 +65,7 @@ fn every_kind_is_accepted_and_every_refusal_is_met() {
 fn most_records_are_accepted() {
     let mut accepted = 0;
     each_step(Knobs::default(), |image, record| {
-        accepted += usize::from(verdict(image, record) == ACCEPTED);
+        accepted += usize::from(judged(image, record) == ACCEPTED);
     });
     let all = HISTORIES as usize * STEPS;
     assert!(accepted * 100 > all * 80, "{accepted} of {all}");
@@ -95,10 +105,9 @@ macro_rules! corners {
     };
 }
 
-const CORNERS: [Corner; 24] = corners! {
-    "name of 255 bytes": V1Topic(r) if r.name.len() == 255;
-    "empty name": V1Topic(r) if r.name.is_empty();
-    "four-byte character": V1Topic(r) if r.name.contains('𝄞');
+const CORNERS: [Corner; 23] = corners! {
+    "name of 249 bytes": V1Topic(r) if r.name.len() == 249;
+    "name of dots": V1Topic(r) if r.name == "...";
     "i16 end": V1Topic(r) if r.replication_factor == i16::MIN;
     "i32 end": V1Topic(r) if r.partitions == i32::MAX;
     "64 replicas": V1Partition(r) if r.replicas.len() == 64;
@@ -124,14 +133,48 @@ const CORNERS: [Corner; 24] = corners! {
         if r.cordoned_log_dirs.as_deref() == Some(&[]);
 };
 
-#[test]
-fn corners_are_met() {
+/// What an old name may be.
+const OLD_CORNERS: [Corner; 5] = corners! {
+    "name of 255 bytes": V1Topic(r) if r.name.len() == 255;
+    "empty name": V1Topic(r) if r.name.is_empty();
+    "four-byte character": V1Topic(r) if r.name.contains('𝄞');
+    "slash": V1Topic(r) if r.name == "Smith/2";
+    "two dots": V1Topic(r) if r.name == "..";
+};
+
+fn are_met(corners: &[Corner], knobs: Knobs) {
     let mut met = BTreeSet::new();
-    each_step(Knobs::default(), |_, record| {
-        let here = CORNERS.iter().filter(|(_, holds)| holds(record));
+    each_step(knobs, |_, record| {
+        let here = corners.iter().filter(|(_, holds)| holds(record));
         met.extend(here.map(|(name, _)| *name));
     });
-    assert_eq!(met, CORNERS.iter().map(|(name, _)| *name).collect());
+    assert_eq!(met, corners.iter().map(|(name, _)| *name).collect());
+}
+
+#[test]
+fn corners_are_met() {
+    are_met(&CORNERS, Knobs::default());
+    are_met(&OLD_CORNERS, with_old_names());
+}
+
+/// Lawful names alone, but where old ones are asked for: there a stored topic
+/// with such a name is met again, which is 24 although the name is stored.
+#[test]
+fn names_are_lawful_but_where_old_ones_are_asked_for() {
+    each_step(Knobs::default(), |image, record| {
+        if let MetadataRecord::V1Topic(topic) = record {
+            assert!(is_lawful(&topic.name), "{:?}", topic.name);
+        }
+        assert_ne!(judged(image, record), UNLAWFUL_NAME);
+    });
+    let mut again = false;
+    each_step(with_old_names(), |image, record| {
+        if let MetadataRecord::V1Topic(topic) = record {
+            let unlawful = judged(image, record) == UNLAWFUL_NAME;
+            again |= unlawful && image.topic(&topic.name).is_some();
+        }
+    });
+    assert!(again, "a stored old topic is given again");
 }
 
 /// Whether no two stored topics share an id, every partition of a stored

@@ -156,6 +156,7 @@ fn restored_images_are_those_of_01() {
     for seed in 0..HISTORIES {
         let knobs = Knobs {
             validated: seed % 3 != 0,
+            old_names: seed % 3 == 0,
             ..Knobs::default()
         };
         seen.extend(run(seed, knobs));

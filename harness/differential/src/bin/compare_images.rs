@@ -5,8 +5,8 @@
 use std::process::ExitCode;
 
 use differential::images::{
-    Tally, compare_cases, compare_history, compare_listing, compare_moves, compare_open,
-    compare_random,
+    Tally, compare_cases, compare_history, compare_listing, compare_moves, compare_names,
+    compare_open, compare_random,
 };
 use differential::{Asked, Compared, Comparison};
 
@@ -19,8 +19,8 @@ const IMAGES: Comparison = Comparison {
     count: 100,
     about: "Compares Open, the exact test, Validate, the lookups, Snapshot and the listing\n\
             for a downgrade of the proved library with the harness's own answers and the\n\
-            reference's images: on named cases, on the images of drawn histories and buffers\n\
-            near them, and on random buffers.",
+            reference's images: on named cases, on topics by their names, on the images of\n\
+            drawn histories and buffers near them, and on random buffers.",
 };
 
 fn main() -> ExitCode {
@@ -39,6 +39,7 @@ fn compare(tally: &mut Tally, asked: &Asked) -> Compared {
     compare_cases(tally)?;
     compare_listing(tally)?;
     compare_moves(tally)?;
+    compare_names(tally)?;
     asked.each(|seed| {
         compare_history(tally, seed)?;
         (0..RANDOM).try_for_each(|draw| compare_random(tally, seed * RANDOM + draw))

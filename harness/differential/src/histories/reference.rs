@@ -3,7 +3,7 @@
 use krabka_metadata::{MetadataImage, MetadataRecord};
 use oracle::image::weight;
 use oracle::observe::{Observed, Witness, observe, restored};
-use oracle::verdict::{ACCEPTED, NO_OFFSET, NO_ROOM, offset_leaves_i64, verdict};
+use oracle::verdict::{ACCEPTED, NO_OFFSET, NO_ROOM, judged, offset_leaves_i64};
 use uuid::Uuid;
 use wire::decode;
 
@@ -28,10 +28,10 @@ impl Reference {
         observe(&self.image, &self.witness)
     }
 
-    /// Read's number, else the verdict.
+    /// Read's number, else Validate's.
     pub fn verdict(&self, input: &[u8]) -> u8 {
         match decode(input) {
-            Ok((record, _)) => verdict(&self.image, &record),
+            Ok((record, _)) => judged(&self.image, &record),
             Err(number) => number,
         }
     }
@@ -48,13 +48,13 @@ impl Reference {
         Ok(after)
     }
 
-    /// A step without a limit of room: a validated one applies what `validate`
+    /// A step without a limit of room: a validated one applies what Validate
     /// accepts, another one every record.
     pub fn take(&mut self, input: &[u8], validated: bool) {
         let Ok((record, _)) = decode(input) else {
             return;
         };
-        let refused = validated && verdict(&self.image, &record) != ACCEPTED;
+        let refused = validated && judged(&self.image, &record) != ACCEPTED;
         if !refused && !offset_leaves_i64(&self.image, &record) {
             self.apply(&record);
         }

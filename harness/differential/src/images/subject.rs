@@ -54,13 +54,14 @@ impl Subject {
     }
 }
 
-/// Histories of several kinds: validated, not validated, within demand 3's
-/// premises, and each with few or many values at the limits.
+/// Histories of several kinds: validated, not validated and with old names,
+/// within demand 3's premises, and each with few or many values at the limits.
 pub fn knobs(seed: u64) -> Knobs {
     Knobs {
         extreme: [0, 0, 1, 4][(seed / 3 % 4) as usize],
         validated: !seed.is_multiple_of(3),
         premises: seed % 3 == 1,
+        old_names: seed.is_multiple_of(3),
         ..Knobs::default()
     }
 }

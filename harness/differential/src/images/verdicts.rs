@@ -1,7 +1,7 @@
 //! Validate of generated records, good and damaged, against an image.
 
 use oracle::generate::{Generator, Knobs};
-use oracle::verdict::verdict;
+use oracle::verdict::judged;
 use wire::{Random, encoded, read};
 
 use super::subject::Subject;
@@ -13,17 +13,18 @@ const RECORDS: usize = 60;
 
 const WHAT: &str = "validate";
 
-/// The reference's verdict on each record; of a damaged one, Read's.
+/// Validate's number of each record; of a damaged one, Read's.
 pub fn compare(tally: &mut Tally, subject: &Subject, image: &[u8], seed: u64) -> Compared {
     let knobs = Knobs {
         accepted: 30,
+        old_names: true,
         ..Knobs::default()
     };
     let mut generator = Generator::new(seed, knobs);
     let mut random = Random::beside(seed);
     for _ in 0..RECORDS {
         let record = generator.record(&subject.image);
-        let expected = verdict(&subject.image, &record);
+        let expected = judged(&subject.image, &record);
         let bytes = encoded(&record);
         // Later bytes are not looked at.
         let longer = [&bytes[..], &[7, 0, 1]].concat();

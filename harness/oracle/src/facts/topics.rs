@@ -100,6 +100,8 @@ fn topic_exists(facts: &mut Facts) {
     }
     let less = topic("q", 2, -1, -1);
     facts.say("validate a new topic with count -1", verdict(&image, &less));
+    let slash = topic("Smith/2", 2, 1, 1);
+    facts.say("validate a new topic Smith/2", verdict(&image, &slash));
 }
 
 fn factors(facts: &mut Facts) {

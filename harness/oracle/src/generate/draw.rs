@@ -15,7 +15,7 @@ use uuid::Uuid;
 use wire::choices::{ACTIONS, FENCING_CHANGES, PATTERN_TYPES, RECOVERY_STATES};
 
 use super::Generator;
-use super::values::{SCOPES, TOPICS};
+use super::values::SCOPES;
 
 const FEATURES: [&str; 5] = ["a", "b", "metadata.version", "", "𝄞"];
 
@@ -58,7 +58,7 @@ impl Generator {
         stored.sort_unstable();
         match self.random.choose(&stored) {
             Some(name) if self.random.percent(75) => name.to_owned(),
-            _ => self.text_of(&TOPICS),
+            _ => self.any_topic_name(),
         }
     }
 
@@ -81,7 +81,7 @@ impl Generator {
     /// A new topic, or one that grows a stored topic, or neither.
     fn topic(&mut self, image: &MetadataImage) -> TopicRecord {
         let name = match self.flag() {
-            true => self.text_of(&TOPICS),
+            true => self.any_topic_name(),
             false => self.topic_name(image),
         };
         let mut record = TopicRecord {

@@ -9,7 +9,15 @@ use wire::choices::PROTOCOLS;
 
 use super::Generator;
 
-pub const TOPICS: [&str; 9] = ["p", "q", "room", "room-7", "__room", "_r", "é", "𝄞-1", ""];
+const TOPICS: [&str; 9] = [
+    "p", "q", "room", "room-7", "__room", "_r", "A.b_c-9", "...", "-",
+];
+
+/// Names from before 02's rule, which Apply and Restore still take.
+const OLD_TOPICS: [&str; 7] = ["é", "𝄞-1", "", "Smith/2", ".", "..", "\u{0}"];
+
+/// Percent of the names that are old ones, where a history has them.
+const OLD: u64 = 30;
 
 pub const SCOPES: [&str; 13] = [
     "", "_", "__", "r", "ro", "room", "room-", "room-7", "__room", "p", "é", "𝄞", "\u{0}",
@@ -87,6 +95,17 @@ impl Generator {
             return self.long_text();
         }
         self.random.pick(pool).to_owned()
+    }
+
+    /// A topic's name: lawful, at times the longest such; or an old one.
+    pub(super) fn any_topic_name(&mut self) -> String {
+        if self.knobs.old_names && self.random.percent(OLD) {
+            return self.text_of(&OLD_TOPICS);
+        }
+        match self.extreme() {
+            true => "n".repeat(249),
+            false => self.random.pick(&TOPICS).to_owned(),
+        }
     }
 
     /// 255 bytes, or as many with a character of four at the end.

@@ -13,7 +13,7 @@ use crate::downgrade::downgrade;
 use crate::facts::build::broker_config;
 use crate::image::FIXED_ROOM;
 use crate::stored::Stored;
-use crate::verdict::{ACCEPTED, NO_IMAGE, NO_OFFSET, NO_ROOM};
+use crate::verdict::{ACCEPTED, NO_IMAGE, NO_OFFSET, NO_ROOM, UNLAWFUL_NAME};
 
 const LEADER: &str = "leader.replication.throttled.rate";
 const LEVELS: [i16; 4] = [-1, 16, 29, 30];
@@ -198,7 +198,8 @@ impl Lines {
     /// Every kind has been accepted and applied, and every number has been an answer.
     pub fn check(&self) {
         assert_eq!(self.kinds, (1..=25).collect());
-        assert_eq!(self.verdicts, (0..=16).chain([REPEATED]).collect());
+        let verdicts = (0..=16).chain([REPEATED, UNLAWFUL_NAME]);
+        assert_eq!(self.verdicts, verdicts.collect());
         let numbers = (ACCEPTED..=OVER_A_LIMIT).chain([NO_OFFSET, NO_ROOM, REPEATED]);
         assert_eq!(self.numbers, numbers.collect());
     }

@@ -5,7 +5,7 @@ use wire::{Random, damaged, encoded};
 
 use super::run::Run;
 use super::{STEP, STEP_ALWAYS};
-use crate::facts::build::partition_record;
+use crate::facts::build::{partition_record, topic};
 use crate::generate::{Generator, Knobs};
 use crate::image::{FIXED_ROOM, MOST_CAPACITY, weight};
 
@@ -25,11 +25,12 @@ pub struct Plan {
 }
 
 impl Plan {
-    /// One history in three applies what `validate` refuses too. Of nine one is mostly of offsets, many at the ends of i64, and one of proposals.
+    /// One history in three applies what Validate refuses too, old names among it. Of nine one is mostly of offsets, many at the ends of i64, and one of proposals.
     pub fn of(number: u64) -> Self {
         let mut knobs = Knobs {
             extreme: [0, 1, 2, 4][(number / 3 % 4) as usize],
             validated: !number.is_multiple_of(3),
+            old_names: number.is_multiple_of(3),
             ..Knobs::default()
         };
         match number % 9 {
@@ -123,9 +124,18 @@ fn next(generator: &mut Generator, image: &MetadataImage) -> Vec<u8> {
     }
 }
 
-/// No bytes, 2; an unknown kind, 3; a DeleteTopic without its name, 4, and with one that is too long, 5; a partition with a replica twice, 20.
-fn refused() -> [Vec<u8>; 5] {
+/// No bytes, 2; an unknown kind, 3; a DeleteTopic without its name, 4, and with one that is too long, 5; a partition with a replica twice, 20; an
+/// unlawful topic name, 24.
+fn refused() -> [Vec<u8>; 6] {
     let long = [&[4, 1, 3, 1, 1, 0], [b'n'; 256].as_slice()].concat();
     let repeated = encoded(&partition_record("p", 0, &[1, 2, 1]));
-    [vec![], vec![26, 0, 0], vec![4, 0, 0], long, repeated]
+    let unlawful = encoded(&topic("Smith/2", 1, 0, 1));
+    [
+        vec![],
+        vec![26, 0, 0],
+        vec![4, 0, 0],
+        long,
+        repeated,
+        unlawful,
+    ]
 }

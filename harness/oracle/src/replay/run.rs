@@ -8,7 +8,7 @@ use super::STEP_ALWAYS;
 use crate::image::{FIXED_ROOM, MOST_CAPACITY, image};
 use crate::layout::HEAD_SIZE;
 use crate::observe::{Observed, Witness, observe, restored};
-use crate::verdict::{ACCEPTED, NO_IMAGE, NO_OFFSET, NO_ROOM, offset_leaves_i64, verdict};
+use crate::verdict::{ACCEPTED, NO_IMAGE, NO_OFFSET, NO_ROOM, judged, offset_leaves_i64};
 
 /// What Open finds in its buffer.
 const DIRT: u8 = 0xaa;
@@ -47,7 +47,7 @@ impl Run {
     /// Validate's number, and Apply's where the operation applies.
     pub fn step(&mut self, operation: u8, input: &[u8]) -> (u8, Option<u8>) {
         let number = match self.record(input) {
-            Ok(record) => verdict(&self.image, &record),
+            Ok(record) => judged(&self.image, &record),
             Err(number) => number,
         };
         let applies = operation == STEP_ALWAYS || number == ACCEPTED;

@@ -33,7 +33,8 @@ pub fn sets() -> [Set; 14] {
     ]
 }
 
-/// An id under two names, a name with two ids, and deletions.
+/// An id under two names, one of them an old one, a name with two ids, and
+/// deletions.
 fn topics() -> Vec<MetadataRecord> {
     vec![
         topic("p", 1, 0, 1),
@@ -41,7 +42,7 @@ fn topics() -> Vec<MetadataRecord> {
         topic("p", 1, 9, 2),
         topic("q", 1, 0, 1),
         topic("q", 2, 0, 1),
-        topic("", 1, 0, 1),
+        topic("Smith/2", 1, 0, 1),
         delete_topic("p"),
         delete_topic("q"),
         partition_record("q", 0, &[1]),
