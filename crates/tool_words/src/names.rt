@@ -100,6 +100,10 @@ pub fn say_verdict(number: u8) -> bool {
         no room\n\
         the output is too short\n\
         a node twice in the replicas\n\
+        no verdict\n\
+        no verdict\n\
+        no verdict\n\
+        an unlawful topic name\n\
         no verdict",
         number,
     )
