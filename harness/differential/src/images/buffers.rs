@@ -4,7 +4,7 @@ use oracle::image::MOST_CAPACITY;
 use oracle::layout::{HEAD_SIZE, Layout};
 use wire::{Random, damaged};
 
-use super::{Compared, Tally, exact, lookups, rules};
+use super::{Compared, Tally, exact, lookups, rules, verdicts};
 
 /// Up to this size every byte of an image is changed, above it some are.
 const SMALL: usize = 1_024;
@@ -156,6 +156,7 @@ pub fn compare_random(tally: &mut Tally, seed: u64) -> Compared {
     let made = || format!("seed {seed}");
     exact::compare(tally, "random bytes", &buffer, made)?;
     lookups::compare_no_image(tally, &buffer)?;
+    verdicts::compare_no_image(tally, &buffer)?;
     rules::compare_no_image(tally, &buffer)
         .map_err(|difference| format!("random bytes, seed {seed}: {difference}"))?;
     if length >= HEAD_SIZE {

@@ -1,12 +1,13 @@
 //! Validate of generated records, good and damaged, against an image.
 
+use krabka_metadata::{FeaturesEpochRecord, MetadataRecord};
 use oracle::generate::{Generator, Knobs};
-use oracle::verdict::judged;
+use oracle::verdict::{NO_IMAGE, judged};
 use wire::{Random, encoded, read};
 
 use super::subject::Subject;
 use super::{Compared, Tally};
-use crate::validate;
+use crate::{apply, validate};
 
 /// The records that are validated against each image.
 const RECORDS: usize = 60;
@@ -32,6 +33,24 @@ pub fn compare(tally: &mut Tally, subject: &Subject, image: &[u8], seed: u64) ->
         let cut = &bytes[..random.below(bytes.len())];
         let number = read(cut).expect_err("a record that is cut");
         expect(tally, image, cut, number, || format!("{record:?} cut"))?;
+    }
+    Ok(())
+}
+
+/// Validate and Apply say 1, of a record that Read takes and of one that it
+/// refuses, and Apply leaves the buffer.
+pub fn compare_no_image(tally: &mut Tally, buffer: &[u8]) -> Compared {
+    let what = "validate and apply to no image";
+    let record = FeaturesEpochRecord { epoch: 7 };
+    let epoch = encoded(&MetadataRecord::V1FeaturesEpoch(record));
+    for input in [&epoch[..], &epoch[1..], &[]] {
+        let mut after = buffer.to_vec();
+        let numbers = (validate(buffer, input), apply(&mut after, input));
+        tally.count(what, numbers.0);
+        tally.count(what, numbers.1);
+        if numbers != (NO_IMAGE, NO_IMAGE) || after != buffer {
+            return Err(format!("{what}: the numbers are {numbers:?}"));
+        }
     }
     Ok(())
 }
