@@ -13,7 +13,7 @@ use Rattle.model.specs.Kind.{kindNumber}
 use Rattle.model.specs.Record.{Rec, recordBytes}
 use Rattle.model.specs.Key.{startsWith}
 use Rattle.model.specs.Map.{put, remove, any}
-use Rattle.model.specs.Contents.{plain, kept, key, recordKey, groupOf, inGroupOf, isGroup, isConfig, typesInOrder}
+use Rattle.model.specs.Contents.{plain, kept, key, recordKey, groupOf, inGroupOf, isGroup, isConfig, entitiesInOrder}
 use Rattle.model.specs.Image.{entryOf}
 use Rattle.model.specs.Move.{joinM, leaveM, onReal, onEmpties}
 use Rattle.model.specs.declared.Kind.{Kind}
@@ -50,7 +50,7 @@ module _ (s g : Bytes) (are : AreBytes s) (i : IsRecord s) (grouped : Grouped (r
   member-key-in : keyIn s ≡ recordKey (recordIn s)
   member-key-in = key-in s i ∙ ap recordKey (sym (record-in s i))
 
-  pub group-told : isConfig (recordIn s) || typesInOrder (values 1 (recordIn s .run)) ≡ true → isGroup (recordIn g) ≡ true
+  pub group-told : isConfig (recordIn s) || entitiesInOrder (values 1 (recordIn s .run)) ≡ true → isGroup (recordIn g) ≡ true
   group-told h = rw (group-in s g are i grouped e) (group-is-group (recordIn s) grouped h)
 
   module _ (w : Bytes) {v : Bytes} (bounds : Bounds) {r : Bounds} where

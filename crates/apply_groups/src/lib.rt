@@ -15,7 +15,7 @@ ghost use Prim.Native.Nat.{_+_, _≤_};
 ghost use lib.ListN.{length, take};
 ghost use Rattle.model.specs.Run.{values};
 ghost use Rattle.model.specs.Record.{recordBytes};
-ghost use Rattle.model.specs.Contents.{groupOf, isGroup, isConfig, typesInOrder};
+ghost use Rattle.model.specs.Contents.{groupOf, isGroup, isConfig, entitiesInOrder};
 ghost use Rattle.model.specs.Move.{joinM, leaveM};
 ghost use Rattle.laws_image.specs.Groups.{Grouped};
 ghost use Rattle.entries.specs.Entries.{recordsIn, Entries, IsRecord, recordIn};
@@ -74,7 +74,7 @@ pub fn join(w: &mut [u8], b: &mut [u8], bounds: Bounds, rec: &[u8]) -> Bounds
 
 // Takes a member out; its group is left behind, empty, where it was the last.
 pub fn leave(w: &mut [u8], b: &mut [u8], bounds: Bounds, rec: &[u8]) -> Bounds
-    requires { ⌜ Good (now w) bounds × IsRecord (now rec) × Grouped (recordIn (now rec) .kind) × (isConfig (recordIn (now rec)) || typesInOrder (values 1 (recordIn (now rec) .run)) ≡ true) × (bounds .used + mostRecord ≤ length (now w)) × (length (now rec) + 3 ≤ length (now b)) ⌝ }
+    requires { ⌜ Good (now w) bounds × IsRecord (now rec) × Grouped (recordIn (now rec) .kind) × (isConfig (recordIn (now rec)) || entitiesInOrder (values 1 (recordIn (now rec) .run)) ≡ true) × (bounds .used + mostRecord ≤ length (now w)) × (length (now rec) + 3 ≤ length (now b)) ⌝ }
     ensures { λ r. ⌜ Made (leaveM (recordIn (now (rec .entry))) ∷ []) (now (w .entry)) bounds (now (w .exit)) r ⌝ }
 {
     let n = group_record(b, rec);

@@ -14,7 +14,7 @@ use Rattle.model.specs.Kind.{kindNumber}
 use Rattle.model.specs.Shape.{rowsOf, shapeOf}
 use Rattle.model.specs.Record.{Rec, rec}
 use Rattle.model.specs.Key.{nodeKey}
-use Rattle.model.specs.Contents.{Entry, storable, isConfig, isBare, typesInOrder}
+use Rattle.model.specs.Contents.{Entry, storable, isConfig, isBare, entitiesInOrder}
 use Rattle.model.specs.Move.{Move, putM, dropM, joinM, leaveM, setOrDrop, joinOrLeave, sortedQuota, storedNext, isAbove, atEpoch, brokerAt, plan}
 use Rattle.model.specs.declared.Kind.{Kind}
 use Rattle.model.specs.declared.Kind.the-variants.{BrokerRegistration, ClientQuota, ProducerIds, UnregisterBroker}
@@ -76,10 +76,10 @@ module _ (f : Run) {x : Rec} (e : x ≡ sortedQuota f) where
   unfolding sortedQuota
   sorted-grouped = subst (λ y. Grouped (y .kind)) (sym e) quota
 
-  pub sorted-ordered : isConfig x || typesInOrder (values 1 (x .run)) ≡ true
+  pub sorted-ordered : isConfig x || entitiesInOrder (values 1 (x .run)) ≡ true
   sorted-ordered =
-      let ordered : typesInOrder (values 1 (x .run)) ≡ true =
-      ap (λ y. typesInOrder (values 1 (y .run))) e ∙ ap typesInOrder (sorted-values f) ∙ sorted-in-order (values 1 f) in
+      let ordered : entitiesInOrder (values 1 (x .run)) ≡ true =
+      ap (λ y. entitiesInOrder (values 1 (y .run))) e ∙ ap entitiesInOrder (sorted-values f) ∙ sorted-in-order (values 1 f) in
       rw (ordered, or-true)
 
   pub quota-made : (l : List Entry) {w v : Bytes} {bounds r : Bounds} → Made (joinOrLeave (isSome (field 3 (x .run))) x ∷ []) w bounds v r

@@ -11,7 +11,7 @@ ghost use Prim.Native.Nat.{_+_, _≤_};
 ghost use lib.ListN.{length};
 ghost use Rattle.model.specs.Choice.{isSome};
 ghost use Rattle.model.specs.Run.{field, values};
-ghost use Rattle.model.specs.Contents.{isConfig, typesInOrder};
+ghost use Rattle.model.specs.Contents.{isConfig, entitiesInOrder};
 ghost use Rattle.model.specs.Move.{joinOrLeave, plan};
 ghost use Rattle.model.specs.declared.Kind.the-variants.{ClientQuota};
 ghost use Rattle.laws_image.specs.Groups.{Grouped};
@@ -21,7 +21,7 @@ ghost use Rattle.apply_work.specs.Work.{Good, heldIn, mostRecord, Made};
 
 // A member joins its group where it has a value, else it leaves.
 pub fn member(w: &mut [u8], b: &mut [u8], bounds: Bounds, rec: &[u8]) -> Bounds
-    requires { ⌜ Good (now w) bounds × IsRecord (now rec) × Grouped (recordIn (now rec) .kind) × (isConfig (recordIn (now rec)) || typesInOrder (values 1 (recordIn (now rec) .run)) ≡ true) × (bounds .used + mostRecord ≤ length (now w)) × (draftRoom ≤ length (now b)) ⌝ }
+    requires { ⌜ Good (now w) bounds × IsRecord (now rec) × Grouped (recordIn (now rec) .kind) × (isConfig (recordIn (now rec)) || entitiesInOrder (values 1 (recordIn (now rec) .run)) ≡ true) × (bounds .used + mostRecord ≤ length (now w)) × (draftRoom ≤ length (now b)) ⌝ }
     ensures { λ r. ⌜ Made (joinOrLeave (isSome (field 3 (recordIn (now (rec .entry)) .run))) (recordIn (now (rec .entry))) ∷ []) (now (w .entry)) bounds (now (w .exit)) r ⌝ }
 {
     if is_bare(rec) {

@@ -122,7 +122,7 @@ unfolding cases Text.wellFormed Text.following Text.textAfter Run.parse Run.byte
     Record.read Record.readOf Record.gathered Record.writeOf Key.rank Key.entitiesKey Key.subject Key.keyOf Key.keyRank Key.keyName
     Key.topicOf Key.groupKey Key.startsWith Map.put Map.get Map.remove Map.keep Map.any Map.count Map.ascending Contents.returned
     Contents.kept Contents.key Contents.groupOf Contents.ofTopic Contents.partitions Contents.size Choice.total Contents.weight
-    Contents.typesInOrder Contents.storable Contents.isGroup Contents.storableEntry Contents.namesId Contents.namedApart Contents.sound
+    Contents.entitiesInOrder Contents.storable Contents.isGroup Contents.storableEntry Contents.namesId Contents.namedApart Contents.sound
     Items.itemsFrom Items.records Items.isWhole Image.isCapacity Image.mark Image.header Image.entryBytes Image.imageOf Image.entryOf
     Image.flagReads Image.realOf Image.emptiesOf Image.contentsOf Image.headerOk Image.entriesOk Image.isImage Image.openOf Move.clearNamed
     Move.clearOldNamed Move.countOf Move.countPartition Move.setDirectories Move.apartFrom Move.onReal Move.onEmpties Move.bumped Move.onFixed Move.move

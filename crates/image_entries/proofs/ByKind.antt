@@ -10,7 +10,7 @@ use Rattle.model.specs.Number.{Bytes, number}
 use Rattle.model.specs.Run.{field, value, values}
 use Rattle.model.specs.Kind.{kindNumber}
 use Rattle.model.specs.Record.{rec}
-use Rattle.model.specs.Contents.{isBare, isGroup, typesInOrder}
+use Rattle.model.specs.Contents.{isBare, isGroup, entitiesInOrder}
 use Rattle.model.specs.Image.{flagReads}
 use Rattle.model.specs.declared.Kind.{Kind}
 use Rattle.laws_records.specs.Kinds.{number-range}
@@ -56,7 +56,7 @@ module _ (e : Bytes) (i : IsRecord e) where
 
   -- 3. Empty groups
 
-  group-is : isBare (recordIn e) && isEmpty (value 2 (recordIn e .run)) && (eqb (kindIn e) 6 || typesInOrder (values 1 (recordIn e .run))) ≡ isGroup (recordIn e)
+  group-is : isBare (recordIn e) && isEmpty (value 2 (recordIn e .run)) && (eqb (kindIn e) 6 || entitiesInOrder (values 1 (recordIn e .run))) ≡ isGroup (recordIn e)
   unfolding isGroup kindNumber
   group-is = rw (kind-in e i)
 
@@ -72,7 +72,7 @@ module _ (e : Bytes) (i : IsRecord e) where
         pub group-config : kindIn e ≡ 6 → true ≡ isGroup (recordIn e)
         group-config h = rw (← p, bare, ← q, nameless, eq-eqb (kindIn e) 6 h) at group-is
 
-        pub group-quota : (kindIn e ≡ 6 → ⊥) → {t : Bool} → t ≡ typesInOrder (values 1 (recordIn e .run)) → t ≡ isGroup (recordIn e)
+        pub group-quota : (kindIn e ≡ 6 → ⊥) → {t : Bool} → t ≡ entitiesInOrder (values 1 (recordIn e .run)) → t ≡ isGroup (recordIn e)
         group-quota h {t} o = o ∙ (rw (← p, bare, ← q, nameless, ne-eqb (kindIn e) 6 h) at group-is)
 
   -- 4. A topic's flag

@@ -1,5 +1,5 @@
 // What is asked of an entry, by its kind.
-use crate::types::types_in_order;
+use crate::entities::entities_in_order;
 use crate::values::has;
 use crate::values::is_empty;
 use crate::values::value_number;
@@ -24,7 +24,7 @@ pub fn is_bare(e: &[u8]) -> bool
     }
 }
 
-// Whether an entry is an empty group: no value, an empty name, and a quota's types in order.
+// Whether an entry is an empty group: no value, an empty name, and a quota's entities in order.
 pub fn is_group(e: &[u8]) -> bool
     requires { ⌜ IsRecord (now e) ⌝ }
     ensures { λ r. ⌜ r ≡ isGroup (recordIn (now (e .entry))) ⌝ }
@@ -38,7 +38,7 @@ pub fn is_group(e: &[u8]) -> bool
     if e[0] == kinds::BROKER_CONFIG {
         return true;
     }
-    types_in_order(e)
+    entities_in_order(e)
 }
 
 // Whether a topic's fifth field is a flag: four zeros, then 0 or 1.
@@ -63,7 +63,7 @@ fn is_positive(n: u64) -> bool
 }
 
 // Whether Apply stores such a record: no level 0, Recovered, thawed freeze, two empty ELR lists or empty topic, metrics or group configs;
-// quota types in order; a next producer id above 0.
+// quota entities in order; a next producer id above 0.
 pub fn is_storable(e: &[u8]) -> bool
     requires { ⌜ IsRecord (now e) ⌝ }
     ensures { λ r. ⌜ r ≡ storableRecord (recordIn (now (e .entry))) ⌝ }
@@ -75,7 +75,7 @@ pub fn is_storable(e: &[u8]) -> bool
         kinds::DELETE_TOPIC => false,
         kinds::TOPIC_CONFIG => has(e, 2),
         kinds::BROKER_CONFIG => has(e, 3),
-        kinds::CLIENT_QUOTA => has(e, 3) && types_in_order(e),
+        kinds::CLIENT_QUOTA => has(e, 3) && entities_in_order(e),
         kinds::PRODUCER_IDS => is_positive(value_number(e, 3, 8)),
         kinds::UNREGISTER_BROKER => false,
         kinds::KRAFT_VERSION => false,

@@ -1,6 +1,6 @@
 // What the exact image test asks of each entry by itself, straight from the entries' bytes.
+mod entities;
 mod kinds;
-mod types;
 mod values;
 
 use entries::Cursor;

@@ -1,5 +1,5 @@
 -- The elements of a quota, one at a time: what a step over them tells, and how it decides the order of two lists.
-use mathlib.Core.Path.{_≡_, ap, _∙_}
+use mathlib.Core.Path.{_≡_, sym, ap, _∙_}
 use mathlib.Core.List.{List, [], _∷_}
 use mathlib.Core.Option.{none, some}
 use Prim.Native.Nat.{ℕ, _+_, _≤_, _<_, Ordering·lt, Ordering·eq, Ordering·gt}
@@ -7,8 +7,9 @@ use native.Mathlib.Omega.{arith}
 use lib.ListN.{length}
 use lib.Seq.{slice}
 use Rattle.model.specs.Number.{Bytes}
-use Rattle.model.specs.Order.{compareBytes, ordering}
+use Rattle.model.specs.Order.{compareBytes, compareKeys, isBelow, thenBy, ordering}
 use Rattle.model.specs.Run.{Run, item, runOf, field, values}
+use Rattle.model.specs.Contents.{entityKey}
 use Rattle.model.specs.declared.Order.{Order}
 use Rattle.model.specs.declared.Order.the-variants.{Less, Equal, Greater}
 use Rattle.laws_records.specs.Fields.{Ascending, values-here, values-below}
@@ -17,12 +18,12 @@ use Rattle.fields.specs.declared.Cursor.{Cursor}
 use Rattle.fields.specs.declared.Step.{Step}
 use Rattle.fields.specs.declared.Step.the-variants.{Field, Torn, End}
 use Rattle.fields.proofs.Took.{took, tore, ended, moved}
-use Rattle.keys.specs.Entities.{nameOrder, entityOrder, compareEntities, onward}
+use Rattle.keys.specs.Entities.{typeOrder, nameOrder, entityOrder, compareEntities, onward}
 use Rattle.keys.specs.declared.entities.Entity.{Entity}
 use Rattle.keys.specs.declared.entities.Entity.the-variants.{At, Last}
 use Rattle.keys.specs.Keys.{runIn}
 use Rattle.keys.proofs.Found.{slice-rest}
-use Rattle.keys.proofs.Orders.{first-less, first-equal, first-greater}
+use Rattle.keys.proofs.Orders.{first-less, first-equal, first-greater, then-same}
 
 -- the fields of a record, from a cursor on its body
 pub begins : (s : Bytes) → fieldsFrom s (record { at = 3; to = length s }) ≡ runIn s
@@ -133,3 +134,14 @@ module _ (e f : Run) where
   pub names-none : field 2 e ≡ none → field 2 f ≡ none → Ordering·eq ≡ nameOrder e f
   unfolding compareBytes
   names-none p q = rw (p, q)
+
+-- 4. The order of two entities is that of their keys
+
+pub entity-order : (e f : Bytes) → compareKeys (entityKey e) (entityKey f) ≡ entityOrder (runOf e) (runOf f)
+unfolding compareKeys
+entity-order e f = ap (thenBy (typeOrder (runOf e) (runOf f))) (then-same (nameOrder (runOf e) (runOf f)))
+
+-- what a comparison tells of them
+pub told-below : (e f : Bytes) {o x : Order} → ordering o ≡ entityOrder (runOf e) (runOf f) → o ≡ x
+    → isBelow (ordering x) ≡ isBelow (compareKeys (entityKey e) (entityKey f))
+told-below e f h is = ap isBelow (ap ordering (sym is) ∙ h ∙ sym (entity-order e f))

@@ -95,7 +95,8 @@ fn part_of(s: &[u8], c: Cursor) -> Cursor
     }
 }
 
-fn compare_entity(a: &[u8], x: Cursor, b: &[u8], y: Cursor) -> Order
+// The order of two entities, each the fields at a cursor: type, then name, an absent name first.
+pub fn compare_entity(a: &[u8], x: Cursor, b: &[u8], y: Cursor) -> Order
     requires { ⌜ Inside (now a) x × Inside (now b) y ⌝ }
     ensures { λ r. ⌜ ordering r ≡ entityOrder (fieldsFrom (now (a .entry)) x) (fieldsFrom (now (b .entry)) y) ⌝ }
 {

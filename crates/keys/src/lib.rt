@@ -3,6 +3,7 @@ mod entities;
 mod values;
 
 use entities::compare_entities;
+pub use entities::compare_entity;
 use fields::Found;
 use model::NodeId;
 use model::Order;

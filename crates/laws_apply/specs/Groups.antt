@@ -9,7 +9,7 @@ use Rattle.model.specs.Run.{Run, value, values}
 use Rattle.model.specs.Record.{Rec}
 use Rattle.model.specs.Key.{rank, rankPart, numberPart, entitiesKey, subject, keyOf, keyRank, groupKey, startsWith}
 use Rattle.model.specs.Map.{put, remove, any}
-use Rattle.model.specs.Contents.{Entry, plain, key, recordKey, groupOf, inGroupOf, typesInOrder, isConfig, isGroup}
+use Rattle.model.specs.Contents.{Entry, plain, key, recordKey, groupOf, inGroupOf, entitiesInOrder, isConfig, isGroup}
 use Rattle.model.specs.declared.Kind.{Kind}
 use Rattle.model.specs.declared.Kind.the-variants.{BrokerConfig, ClientQuota}
 use Rattle.laws.specs.Choice.{impossible, not-true-false, and-left}
@@ -121,7 +121,7 @@ module _ (l : List Entry) (g : List Rec) (empties : Empties l g) where
 
     -- 3. A member leaves its group, which is empty if no other is left
 
-    pub leave-empties : Readable r → isConfig r || typesInOrder (values 1 (r .run)) ≡ true
+    pub leave-empties : Readable r → isConfig r || entitiesInOrder (values 1 (r .run)) ≡ true
         → let m = remove key (recordKey r) l in
         Empties m (cond (any key (inGroupOf r) m) g (put recordKey (groupOf r) g))
     leave-empties readable ordered = go (any key (inGroupOf r) m) refl

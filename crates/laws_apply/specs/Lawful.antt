@@ -5,7 +5,7 @@ use Prim.Native.Nat.{_<_}
 use Rattle.model.specs.Number.{span}
 use Rattle.model.specs.Run.{values}
 use Rattle.model.specs.Record.{Rec, rec}
-use Rattle.model.specs.Contents.{storable, typesInOrder, isConfig}
+use Rattle.model.specs.Contents.{storable, entitiesInOrder, isConfig}
 use Rattle.model.specs.Move.{Move, putM, dropM, joinM, leaveM, topicM, partM, directoriesM, deleteM, bumpM, epochM, kraftM}
 use Rattle.model.specs.declared.Kind.the-variants.{Partition}
 use Rattle.laws_image.specs.Fits.{Readable}
@@ -22,7 +22,7 @@ pub record Puts (r : Rec) : Type 0 where
 pub record Leaves (r : Rec) : Type 0 where
   pub readable : Readable r
   pub grouped : Grouped (r .kind)
-  pub ordered : isConfig r || typesInOrder (values 1 (r .run)) ≡ true
+  pub ordered : isConfig r || entitiesInOrder (values 1 (r .run)) ≡ true
 
 abbrev pub Lawful : Move → Type 0
 Lawful (putM r) = Puts r × (Grouped (r .kind) → ⊥)

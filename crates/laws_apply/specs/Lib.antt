@@ -6,9 +6,12 @@
 --   empty groups after a change ........................... Groups.put-empties, join-empties, leave-empties
 --   what a move must carry ................................ Lawful.Lawful
 --   a lawful move keeps what Apply keeps .................. Moves.Holds, Moves.move-holds, Moves.moves-hold
+--   keys that a move or a record does not touch ........... Untouched.untouched, Untouched.moved-other
 --   records that plans make read back ..................... Changes; quotas with their entities sorted: Quotas
+--   quotas with their entities in another order ........... Permuted.keys-meet, Permuted.keys-apart, Permuted.quotas-meet
 --   every move of a plan is lawful ........................ Plans.plan-lawful
 --   contents that fit fit afterwards ...................... MovedFits.moved-fits, MovedFits.outcome, MovedFits.applied-fits
+--   the last record of a quota in a run stands ............ Spellings.one-group, Spellings.later-stands
 --   Apply keeps images, and what it answers ............... Apply.apply-image, Apply.apply-contents
 pub mod Readable
 pub mod Entries
@@ -16,9 +19,12 @@ pub mod Topics
 pub mod Groups
 pub mod Lawful
 pub mod Moves
+pub mod Untouched
 pub mod Changes
 pub mod Quotas
+pub mod Permuted
 pub mod Found
 pub mod Plans
 pub mod MovedFits
+pub mod Spellings
 pub mod Apply

@@ -66,7 +66,7 @@ stored-move bumpM h l u = u
 stored-move (epochM e) h l u = u
 stored-move (kraftM v) h l u = u
 
-asc-move : (m : Move) (l : List Entry) → Asc key l → Asc key (onReal m l)
+pub asc-move : (m : Move) (l : List Entry) → Asc key l → Asc key (onReal m l)
 unfolding onReal
 asc-move (putM r) l a = put-asc key (plain r) l a
 asc-move (dropM k) l a = remove-asc key k l a

@@ -15,7 +15,7 @@ use Rattle.model.specs.Kind.{kindNumber}
 use Rattle.model.specs.Shape.{rowsOf, shapeOf, logged, stored, fault}
 use Rattle.model.specs.Record.{Rec, rec}
 use Rattle.model.specs.Key.{rank, keyRank, keyOf, nodeKey, nameKey, partitionKey}
-use Rattle.model.specs.Contents.{Entry, storable, typesInOrder, isConfig}
+use Rattle.model.specs.Contents.{Entry, storable, entitiesInOrder, isConfig}
 use Rattle.model.specs.Move.{Move, putM, dropM, directoriesM, filled, assigned, setOrDrop, joinOrLeave, elrRec, elrMove, recoveryRec, recoveryMove, updateMoves}
 use Rattle.model.specs.Move.{runAt, brokerAt, atEpoch, orDone, storedNext, isAbove, changedBroker, replicas, directories, nodeCount, slotOf}
 use Rattle.model.specs.Move.{directoryMoves, sortedQuota, offsetSum, sumBytes, storedOffset, plan}
@@ -89,7 +89,7 @@ number-below : (width : ℕ) (v : Bytes) → AreBytes v → length v ≡ width �
 number-below width v b h = rw h at (number-bound v b)
 
 -- a member joins where it has a value, else it leaves
-join-or-leave : (r : Rec) → Readable r → Grouped (r .kind) → isConfig r || typesInOrder (values 1 (r .run)) ≡ true
+join-or-leave : (r : Rec) → Readable r → Grouped (r .kind) → isConfig r || entitiesInOrder (values 1 (r .run)) ≡ true
     → (b : Bool) → (b ≡ true → storable (r .kind) (r .run) ≡ true) → Lawful (joinOrLeave b r)
 join-or-leave r p g ordered true h = (record { readable = p; storable = h refl }, g)
 join-or-leave r p g ordered false h = record { readable = p; grouped = g; ordered = ordered }
@@ -110,7 +110,7 @@ module _ (f : Run) (b : AreFields f) where
   quota-lawful : fault logged ClientQuota f ≡ 0 → Lawful (joinOrLeave (isSome (field 3 f)) (sortedQuota f))
   unfolding sortedQuota storable
   quota-lawful ok =
-      let ordered = ap typesInOrder (sorted-values f) ∙ sorted-in-order (values 1 f) in
+      let ordered = ap entitiesInOrder (sorted-values f) ∙ sorted-in-order (values 1 f) in
       join-or-leave (sortedQuota f) (sorted-readable f ok b) quota (rw (ordered, or-true)) (isSome (field 3 f))
       (λ e. rw (sorted-value f, ordered, e))
 

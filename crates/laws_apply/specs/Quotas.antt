@@ -9,14 +9,14 @@ use lib.Dec.{lit<}
 use lib.ListN.{length}
 use Rattle.model.specs.Choice.{choose}
 use Rattle.model.specs.Number.{Bytes, AreBytes}
-use Rattle.model.specs.Order.{compareBytes, isBelow}
+use Rattle.model.specs.Order.{isBelow}
 use Rattle.model.specs.Run.{Run, field, values, dropField, items}
 use Rattle.model.specs.Shape.{nested, entity, entityLimit, Row, upTo, rowsOf, valueFault, logged, shapeOf, fault}
-use Rattle.model.specs.Contents.{entityType, typesInOrder}
-use Rattle.model.specs.Move.{entityOrder, insertEntity, sortedEntities, sortedQuota}
+use Rattle.model.specs.Contents.{entityKey, entityOrder, entitiesInOrder}
+use Rattle.model.specs.Move.{insertEntity, sortedEntities, sortedQuota}
 use Rattle.model.specs.declared.Kind.the-variants.{ClientQuota}
 use Rattle.laws.specs.Choice.{impossible, and-left, and-right, and-both}
-use Rattle.laws.specs.Order.{lt-gt, bytes-total}
+use Rattle.laws.specs.Order.{lt-gt, keys-total}
 use Rattle.laws.specs.Lists.{All, all-imp}
 use Rattle.laws_records.specs.Runs.{AreFields}
 use Rattle.laws_records.specs.Fields.{values-are-bytes, values-drop-same, drop-ascending, drop-fields}
@@ -64,46 +64,46 @@ sorted-length (e ∷ l) = insert-length e (sortedEntities l) ∙ ap suc (sorted-
 -- 2. In order
 
 -- none of a list's entities is below the one before it
-order-tail : (x : Bytes) (l : List Bytes) → typesInOrder (x ∷ l) ≡ true → typesInOrder l ≡ true
-unfolding typesInOrder
+order-tail : (x : Bytes) (l : List Bytes) → entitiesInOrder (x ∷ l) ≡ true → entitiesInOrder l ≡ true
+unfolding entitiesInOrder
 order-tail x [] h = refl
-order-tail x (y ∷ l) h = and-right (not (isBelow (compareBytes (entityType y) (entityType x)))) (typesInOrder (y ∷ l)) h
+order-tail x (y ∷ l) h = and-right (not (isBelow (entityOrder y x))) (entitiesInOrder (y ∷ l)) h
 
-order-cons : (x y : Bytes) (l : List Bytes) → isBelow (entityOrder y x) ≡ false → typesInOrder (y ∷ l) ≡ true
-    → typesInOrder (x ∷ y ∷ l) ≡ true
-unfolding typesInOrder
+order-cons : (x y : Bytes) (l : List Bytes) → isBelow (entityOrder y x) ≡ false → entitiesInOrder (y ∷ l) ≡ true
+    → entitiesInOrder (x ∷ y ∷ l) ≡ true
+unfolding entitiesInOrder
 order-cons x y l p q = rw (p, q)
 
 -- an entity that comes after the first, put among those after it
-insert-after : (x e : Bytes) (l : List Bytes) → isBelow (entityOrder e x) ≡ false → typesInOrder (x ∷ l) ≡ true
-    → typesInOrder (insertEntity e l) ≡ true → typesInOrder (x ∷ insertEntity e l) ≡ true
-unfolding insertEntity typesInOrder
+insert-after : (x e : Bytes) (l : List Bytes) → isBelow (entityOrder e x) ≡ false → entitiesInOrder (x ∷ l) ≡ true
+    → entitiesInOrder (insertEntity e l) ≡ true → entitiesInOrder (x ∷ insertEntity e l) ≡ true
+unfolding insertEntity entitiesInOrder
 insert-after x e [] p h i = rw p
 insert-after x e (y ∷ l) p h i = go (entityOrder e y) i
   where
     below : Bool
-    below = isBelow (compareBytes (entityType y) (entityType x))
+    below = isBelow (entityOrder y x)
 
-    go : (o : Ordering) → typesInOrder (choose o (e ∷ y ∷ l) (e ∷ y ∷ l) (y ∷ insertEntity e l)) ≡ true
-        → typesInOrder (x ∷ choose o (e ∷ y ∷ l) (e ∷ y ∷ l) (y ∷ insertEntity e l)) ≡ true
+    go : (o : Ordering) → entitiesInOrder (choose o (e ∷ y ∷ l) (e ∷ y ∷ l) (y ∷ insertEntity e l)) ≡ true
+        → entitiesInOrder (x ∷ choose o (e ∷ y ∷ l) (e ∷ y ∷ l) (y ∷ insertEntity e l)) ≡ true
     go Ordering·lt j = order-cons x e (y ∷ l) p j
     go Ordering·eq j = order-cons x e (y ∷ l) p j
-    go Ordering·gt j = and-both (not below) (typesInOrder (y ∷ insertEntity e l)) (and-left (not below) (typesInOrder (y ∷ l)) h) j
+    go Ordering·gt j = and-both (not below) (entitiesInOrder (y ∷ insertEntity e l)) (and-left (not below) (entitiesInOrder (y ∷ l)) h) j
 
-insert-in-order : (e : Bytes) (l : List Bytes) → typesInOrder l ≡ true → typesInOrder (insertEntity e l) ≡ true
-unfolding insertEntity typesInOrder
+insert-in-order : (e : Bytes) (l : List Bytes) → entitiesInOrder l ≡ true → entitiesInOrder (insertEntity e l) ≡ true
+unfolding insertEntity entitiesInOrder
 insert-in-order e [] h = h
 insert-in-order e (x ∷ l) h = go (entityOrder e x) refl (insert-in-order e l (order-tail x l h))
   where
-    go : (o : Ordering) → entityOrder e x ≡ o → typesInOrder (insertEntity e l) ≡ true
-        → typesInOrder (choose o (e ∷ x ∷ l) (e ∷ x ∷ l) (x ∷ insertEntity e l)) ≡ true
-    go Ordering·lt q i = order-cons e x l (rw (lt-gt bytes-total (entityType e) (entityType x) q)) h
-    go Ordering·eq q i = order-cons e x l (rw (bytes-total .flip (entityType e) (entityType x), q)) h
+    go : (o : Ordering) → entityOrder e x ≡ o → entitiesInOrder (insertEntity e l) ≡ true
+        → entitiesInOrder (choose o (e ∷ x ∷ l) (e ∷ x ∷ l) (x ∷ insertEntity e l)) ≡ true
+    go Ordering·lt q i = order-cons e x l (rw (lt-gt keys-total (entityKey e) (entityKey x) q)) h
+    go Ordering·eq q i = order-cons e x l (rw (keys-total .flip (entityKey e) (entityKey x), q)) h
     go Ordering·gt q i = insert-after x e l (rw q) h i
 
-pub sorted-in-order : (l : List Bytes) → typesInOrder (sortedEntities l) ≡ true
+pub sorted-in-order : (l : List Bytes) → entitiesInOrder (sortedEntities l) ≡ true
 unfolding sortedEntities
-sorted-in-order [] = unfold typesInOrder in refl
+sorted-in-order [] = unfold entitiesInOrder in refl
 sorted-in-order (e ∷ l) = insert-in-order e (sortedEntities l) (sorted-in-order l)
 
 -- 3. A quota with its entities sorted

@@ -15,7 +15,7 @@ use Rattle.model.specs.Shape.{rowsOf, shapeOf, stored}
 use Rattle.model.specs.Record.{Rec, rec}
 use Rattle.model.specs.Key.{keyOf, subject}
 use Rattle.model.specs.Map.{ascending}
-use Rattle.model.specs.Contents.{Entry, topic, part, plain, flagBytes, kept, key, recordKey, storable, typesInOrder, isConfig, isBare, isGroup}
+use Rattle.model.specs.Contents.{Entry, topic, part, plain, flagBytes, kept, key, recordKey, storable, entitiesInOrder, isConfig, isBare, isGroup}
 use Rattle.model.specs.Image.{entryOf, flagReads, realOf, emptiesOf}
 use Rattle.model.specs.declared.Kind.{Kind}
 use Rattle.model.specs.declared.Kind.the-variants.{Topic, Partition, BrokerConfig, ClientQuota}
@@ -155,7 +155,7 @@ storable-bare k run = go (eqb (kindNumber k) 6) refl (eqb (kindNumber k) 7) refl
   where
     go : (b : Bool) → eqb (kindNumber k) 6 ≡ b → (c : Bool) → eqb (kindNumber k) 7 ≡ c → storable k run ≡ true → isBare (rec k run) ≡ false
     go true e c f = rw (is-kind k BrokerConfig e) (λ h. rw h)
-    go false e true f = rw (is-kind k ClientQuota f) (λ h. rw (and-left (isSome (field 3 run)) (typesInOrder (values 1 run)) h))
+    go false e true f = rw (is-kind k ClientQuota f) (λ h. rw (and-left (isSome (field 3 run)) (entitiesInOrder (values 1 run)) h))
     go false e false f = λ h. rw (e, f)
 
 pub kept-bare : (e : Entry) → Storable e → isBare (kept e) ≡ false
@@ -207,7 +207,7 @@ pub group-bare : (r : Rec) → isGroup r ≡ true → isBare r ≡ true
 unfolding isGroup
 group-bare r h =
     let named = isEmpty (value 2 (r .run)) in
-    let ordered = isConfig r || typesInOrder (values 1 (r .run)) in
+    let ordered = isConfig r || entitiesInOrder (values 1 (r .run)) in
     and-left (isBare r) named (and-left (isBare r && named) ordered h)
 
 module _ (gs : List Rec) (bare : All (λ r. isBare r ≡ true) gs) where

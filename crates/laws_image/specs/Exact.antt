@@ -10,7 +10,7 @@ use lib.Seq.{slice, length-slice, take-take}
 use Rattle.model.specs.Choice.{joined}
 use Rattle.model.specs.Number.{Bytes, AreBytes, number, span}
 use Rattle.model.specs.Run.{bytesOf}
-use Rattle.model.specs.Shape.{stored, fault}
+use Rattle.model.specs.Shape.{Source, stored, fault}
 use Rattle.model.specs.Record.{Rec, recordBytes, replicasApart}
 use Rattle.model.specs.Items.{records, isWhole}
 use Rattle.model.specs.Contents.{kept, Contents, fixedRoom, weight, sound}
@@ -31,10 +31,10 @@ use Rattle.laws_image.specs.Image.{standing, entry-bytes, image-contents
 
 -- 1. Records that were read from bytes
 
-fields-record : (r : Rec) → fault stored (r .kind) (r .run) ≡ 0 → AreBytes (recordBytes r) → AreFields (r .run)
+pub fields-record : (source : Source) (r : Rec) → fault source (r .kind) (r .run) ≡ 0 → AreBytes (recordBytes r) → AreFields (r .run)
 unfolding recordBytes
-fields-record r ok h =
-    rw (run-bytes (r .run) (fault-whole stored (r .kind) (r .run) ok) (fault-short stored (r .kind) (r .run) ok)) at
+fields-record source r ok h =
+    rw (run-bytes (r .run) (fault-whole source (r .kind) (r .run) ok) (fault-short source (r .kind) (r .run) ok)) at
     (fields-run (bytesOf (r .run)) (h .1 .1 .1))
 
 pub readable-records : (rs : List Rec) → AllPass stored rs → AreBytes (joined recordBytes rs) → All Readable rs
@@ -42,7 +42,7 @@ readable-records [] ok h = tt
 readable-records (r ∷ rs) ok h =
     let here = left-are-bytes (recordBytes r) (joined recordBytes rs) h in
     let rest = right-are-bytes (recordBytes r) (joined recordBytes rs) h in
-    (record { passes = ok .0; fields = fields-record r (ok .0) here }, readable-records rs (ok .1) rest)
+    (record { passes = ok .0; fields = fields-record stored r (ok .0) here }, readable-records rs (ok .1) rest)
 
 -- 2. The contents of an image, and their image
 

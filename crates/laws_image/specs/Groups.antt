@@ -16,7 +16,7 @@ use Rattle.model.specs.Shape.{rowsOf, shapeOf, stored, fault}
 use Rattle.model.specs.Record.{Rec, rec}
 use Rattle.model.specs.Key.{rank, namePart, numberPart, entitiesKey, subject, keyOf, groupKey, startsWith}
 use Rattle.model.specs.Contents.{Entry, topic, part, plain, returned, key, recordKey, groupOf, inGroupOf}
-use Rattle.model.specs.Contents.{typesInOrder, isConfig, isQuota, isBare, isGroup}
+use Rattle.model.specs.Contents.{entitiesInOrder, isConfig, isQuota, isBare, isGroup}
 use Rattle.model.specs.declared.Kind.{Kind}
 use Rattle.model.specs.declared.Kind.the-variants.{BrokerConfig, ClientQuota}
 use Rattle.laws.specs.Choice.{impossible, and-left, and-right, and-both}
@@ -85,7 +85,7 @@ entities-start (e ∷ es) (f ∷ fs) k h =
 -- 3. The keys of groups
 
 -- a group's key: of a config its node, of a quota its entities
-abbrev grouping : {k : Kind} → Grouped k → Run → Key
+abbrev pub grouping : {k : Kind} → Grouped k → Run → Key
 grouping config r = (rank BrokerConfig ∷ []) ∷ numberPart (value 1 r) ∷ []
 grouping quota r = (rank ClientQuota ∷ []) ∷ entitiesKey (values 1 r) []
 
@@ -95,7 +95,7 @@ unfolding keyOf subject
 member-key config r = refl
 member-key quota r = ap (λ (t : Key). (rank ClientQuota ∷ []) ∷ t) (entities-append (values 1 r) (value 2 r ∷ []))
 
-group-grouping : {k : Kind} (g : Grouped k) (r : Run) → groupKey (keyOf k r) ≡ grouping g r
+pub group-grouping : {k : Kind} (g : Grouped k) (r : Run) → groupKey (keyOf k r) ≡ grouping g r
 group-grouping g r = ap groupKey (member-key g r) ∙ group-last (grouping g r) (value 2 r)
 
 pub group-member : {k : Kind} (g : Grouped k) (r : Run) → keyOf k r ≡ groupKey (keyOf k r) ++ (value 2 r ∷ [])
@@ -192,11 +192,11 @@ module _ (r : Rec) (g : Grouped (r .kind)) where
   pub in-group-of : (k : Key) → inGroupOf (groupOf r) k ≡ inGroupOf r k
   in-group-of k = ap (λ (t : Key). startsWith t k) group-key
 
-  pub group-is-group : isConfig r || typesInOrder (values 1 (r .run)) ≡ true → isGroup (groupOf r) ≡ true
+  pub group-is-group : isConfig r || entitiesInOrder (values 1 (r .run)) ≡ true → isGroup (groupOf r) ≡ true
   unfolding isGroup groupOf
   group-is-group h =
       let run = r .run in
-      and-both (isBare (groupOf r) && isEmpty (value 2 (bared run))) (isConfig r || typesInOrder (values 1 (bared run)))
+      and-both (isBare (groupOf r) && isEmpty (value 2 (bared run))) (isConfig r || entitiesInOrder (values 1 (bared run)))
       (and-both (isBare (groupOf r)) (isEmpty (value 2 (bared run))) (rw (bared-field run, grouped-kind g run)) (rw (bared-name run)))
       (rw (bared-values run) h)
 
@@ -205,7 +205,7 @@ pub record GroupHolds (r : Rec) : Type 0 where
   pub kind : Grouped (r .kind)
   pub name : value 2 (r .run) ≡ []
   pub bare : field 3 (r .run) ≡ none
-  pub ordered : isConfig r || typesInOrder (values 1 (r .run)) ≡ true
+  pub ordered : isConfig r || entitiesInOrder (values 1 (r .run)) ≡ true
 
 empty-nil : (v : Bytes) → isEmpty v ≡ true → v ≡ []
 empty-nil [] h = refl
@@ -221,7 +221,7 @@ group-holds r h =
     let kinds = isConfig r || isQuota r in
     let lacking = not (isSome (field 3 (r .run))) in
     let nameless = isEmpty (value 2 (r .run)) in
-    let ordered = isConfig r || typesInOrder (values 1 (r .run)) in
+    let ordered = isConfig r || entitiesInOrder (values 1 (r .run)) in
     let two = and-left (kinds && lacking && nameless) ordered h in
     let one = and-left (kinds && lacking) nameless two in
     record {

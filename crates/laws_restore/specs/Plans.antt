@@ -10,14 +10,14 @@ use lib.ListN.{length}
 use borrow.Author.Tests.{eqb-true, ltb-true, lt-ltb, le-ltb, lt-leb, leb-false, not-true, eq-eqb, ne-eqb}
 use Rattle.model.specs.Choice.{choose, isSome}
 use Rattle.model.specs.Number.{Bytes, AreBytes, number, bytes, span, half, place, isNegative}
-use Rattle.model.specs.Order.{compareBytes, isBelow}
+use Rattle.model.specs.Order.{isBelow}
 use Rattle.model.specs.Run.{Run, done, torn, item, field, orEmpty, value, values, setField, dropField, items}
 use Rattle.model.specs.Kind.{kindNumber}
 use Rattle.model.specs.Shape.{rowsOf, shapeOf, logged, fault}
 use Rattle.model.specs.Record.{Rec, rec}
 use Rattle.model.specs.Key.{rank, subject, keyOf, keyRank}
 use Rattle.model.specs.Map.{get}
-use Rattle.model.specs.Contents.{Entry, key, recordKey, entityType, typesInOrder, storable}
+use Rattle.model.specs.Contents.{Entry, key, recordKey, entityKey, entityOrder, entitiesInOrder, storable}
 use Rattle.model.specs.Move.{Move, putM, joinM, bumpM, fields, insertEntity, sortedEntities, sortedQuota}
 use Rattle.model.specs.Move.{offsetSum, sumLeaves, sumBytes, storedOffset, plan, overflows}
 use Rattle.model.specs.Snapshot.{isLevel}
@@ -25,7 +25,7 @@ use Rattle.model.specs.declared.Kind.{Kind}
 use Rattle.model.specs.declared.Kind.the-variants.{Topic, Partition, BrokerRegistration, DeleteTopic, TopicConfig, BrokerConfig, ClientQuota, ProducerIds, UnregisterBroker, KRaftVersion, FeatureLevel, ClientMetricsConfig, FeaturesEpoch}
 use Rattle.model.specs.declared.Kind.the-variants.{PartitionDirAssignment, PartitionOffsetAdvance, GroupConfig, ControllerRegistration, TopicFreeze, BreakGlassProposal, DeleteBreakGlassProposal, PartitionElr, PartitionRecovery, PartitionUpdate, BrokerRegistrationChange, UnregisterController}
 use Rattle.laws.specs.Choice.{impossible, true-false, and-left, and-right}
-use Rattle.laws.specs.Order.{gt-lt, bytes-total}
+use Rattle.laws.specs.Order.{gt-lt, keys-total}
 use Rattle.laws.specs.Numbers.{number-bound, bytes-number, place-bound, place-nonnegative, place-place}
 use Rattle.laws_records.specs.Kinds.{number-injective}
 use Rattle.laws_records.specs.Runs.{AreFields}
@@ -34,23 +34,23 @@ use Rattle.laws_records.specs.Faults.{fault-ascends, fault-required, fault-valu
 
 -- 1. Quotas: entities in order are sorted, and a run's first fields go back where they stood
 
-pub sorted-same : (es : List Bytes) → typesInOrder es ≡ true → sortedEntities es ≡ es
-unfolding typesInOrder sortedEntities insertEntity
+pub sorted-same : (es : List Bytes) → entitiesInOrder es ≡ true → sortedEntities es ≡ es
+unfolding entitiesInOrder sortedEntities insertEntity
 sorted-same [] h = refl
 sorted-same (e ∷ []) h = refl
 sorted-same (e ∷ f ∷ es) h =
-    rw (sorted-same (f ∷ es) (and-right (not below) (typesInOrder (f ∷ es)) h)) (go (compareBytes (entityType e) (entityType f)) refl)
+    rw (sorted-same (f ∷ es) (and-right (not below) (entitiesInOrder (f ∷ es)) h)) (go (entityOrder e f) refl)
   where
     below : Bool
-    below = isBelow (compareBytes (entityType f) (entityType e))
+    below = isBelow (entityOrder f e)
 
-    go : (o : Ordering) → compareBytes (entityType e) (entityType f) ≡ o
+    go : (o : Ordering) → entityOrder e f ≡ o
         → choose o (e ∷ f ∷ es) (e ∷ f ∷ es) (f ∷ insertEntity e es) ≡ e ∷ f ∷ es
     go Ordering·lt q = refl
     go Ordering·eq q = refl
     go Ordering·gt q =
-        absurd (true-false (rw (gt-lt bytes-total (entityType e) (entityType f) q))
-        (not-true below (and-left (not below) (typesInOrder (f ∷ es)) h)))
+        absurd (true-false (rw (gt-lt keys-total (entityKey e) (entityKey f) q))
+        (not-true below (and-left (not below) (entitiesInOrder (f ∷ es)) h)))
 
 pub items-values : (tag : ℕ) (r : Run) → Ascending tag r → items tag (values tag r) (dropField tag r) ≡ r
 unfolding items values dropField
@@ -67,7 +67,7 @@ items-values tag (item t v r) a = go (against t tag) (items-values tag r (ascend
         let gone = values-below t tag r (a .1) k in
         rw (ne-eqb t tag apart, gone) (ap (item t v) (rw gone at i))
 
-pub sorted-quota : (f : Run) → Ascending 1 f → typesInOrder (values 1 f) ≡ true → sortedQuota f ≡ rec ClientQuota f
+pub sorted-quota : (f : Run) → Ascending 1 f → entitiesInOrder (values 1 f) ≡ true → sortedQuota f ≡ rec ClientQuota f
 unfolding sortedQuota
 sorted-quota f a h = rw (sorted-same (values 1 f) h, items-values 1 f a)
 
@@ -138,8 +138,8 @@ plan-stores PartitionOffsetAdvance f l s ok b h = rw (offset-new f l ok b h) put
 plan-stores ProducerIds f l s ok b h = rw (h, next-above (number (value 3 f)) s) puts
 plan-stores BrokerConfig f l s ok b h = rw s joins
 plan-stores ClientQuota f l s ok b h =
-    let ordered = and-right (isSome (field 3 f)) (typesInOrder (values 1 f)) s in
-    rw (and-left (isSome (field 3 f)) (typesInOrder (values 1 f)) s, sorted-quota f (fault-ascends logged ClientQuota f ok) ordered) joins
+    let ordered = and-right (isSome (field 3 f)) (entitiesInOrder (values 1 f)) s in
+    rw (and-left (isSome (field 3 f)) (entitiesInOrder (values 1 f)) s, sorted-quota f (fault-ascends logged ClientQuota f ok) ordered) joins
 plan-stores FeatureLevel f l s ok b h = rw s bumps
 plan-stores Topic f l s ok b h = impossible cc
 plan-stores Partition f l s ok b h = impossible cc

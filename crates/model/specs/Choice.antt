@@ -1,6 +1,6 @@
 -- Choices that the rules are written with.
 use Prim.Native.Nat.{ℕ, zero, suc, _+_, Ordering, Ordering·lt, Ordering·eq, Ordering·gt}
-use mathlib.Core.Bool.{Bool, true, false, _&&_}
+use mathlib.Core.Bool.{Bool, true, false, cond, _&&_}
 use mathlib.Core.List.{List, [], _∷_, _++_}
 use mathlib.Core.Option.{Option, none, some}
 
@@ -56,3 +56,8 @@ total f (x ∷ l) = f x + total f l
 unfoldable pub folded : {A B : Type 0} → (B → A → B) → B → List A → B
 folded f b [] = b
 folded f b (x ∷ l) = folded f (f b x) l
+
+-- the last element that passes a test
+unfoldable pub lastOf : {A : Type 0} → (A → Bool) → List A → Option A
+lastOf test [] = none
+lastOf test (x ∷ l) = orElse (lastOf test l) (cond (test x) (some x) none)

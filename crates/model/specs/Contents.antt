@@ -1,16 +1,16 @@
 -- What an image holds, and what it weighs.
-use Prim.Native.Nat.{ℕ, _+_, _-_}
+use Prim.Native.Nat.{ℕ, _+_, _-_, Ordering}
 use mathlib.Core.Bool.{Bool, true, false, cond, _&&_, _||_, not}
 use mathlib.Core.List.{List, [], _∷_}
 use lib.Dec.{leb, ltb, eqb}
 use lib.ListN.{length}
 use Rattle.model.specs.Choice.{isSome, isEmpty, every, total}
 use Rattle.model.specs.Number.{Bytes, number, bytes, span, isNegative}
-use Rattle.model.specs.Order.{Key, compareBytes, isBelow, sameBytes}
+use Rattle.model.specs.Order.{Key, compareKeys, isBelow, sameBytes}
 use Rattle.model.specs.Run.{Run, done, item, runOf, field, value, values, setField, dropField}
 use Rattle.model.specs.Kind.{kindNumber}
 use Rattle.model.specs.Record.{Rec, rec, recordBytes}
-use Rattle.model.specs.Key.{rank, keyOf, topicKey, keyRank, keyName, groupKey, startsWith}
+use Rattle.model.specs.Key.{rank, namePart, keyOf, topicKey, keyRank, keyName, groupKey, startsWith}
 use Rattle.model.specs.Map.{any, count, ascending}
 use Rattle.model.specs.declared.Kind.{Kind}
 use Rattle.model.specs.declared.Kind.the-variants.{Topic, Partition, BrokerRegistration, DeleteTopic, TopicConfig, BrokerConfig, ClientQuota, ProducerIds, UnregisterBroker, KRaftVersion, FeatureLevel, ClientMetricsConfig, FeaturesEpoch}
@@ -104,17 +104,21 @@ weight c = fixedRoom + total size (c .real) + total (λ r. length (recordBytes r
 
 -- 5. What Apply stores
 
--- "Quota entities are ordered by type": none is above the next
-abbrev pub entityType : Bytes → Bytes
-entityType e = value 1 (runOf e)
+-- 01, "Quota entities are ordered by type", and 02, 8, "Entities of equal type are now ordered by name bytes, an absent name first": none is
+-- above the next
+abbrev pub entityKey : Bytes → Key
+entityKey e = value 1 (runOf e) ∷ namePart (field 2 (runOf e)) ∷ []
 
-unfoldable pub typesInOrder : List Bytes → Bool
-typesInOrder [] = true
-typesInOrder (e ∷ []) = true
-typesInOrder (e ∷ f ∷ es) = not (isBelow (compareBytes (entityType f) (entityType e))) && typesInOrder (f ∷ es)
+abbrev pub entityOrder : Bytes → Bytes → Ordering
+entityOrder a b = compareKeys (entityKey a) (entityKey b)
+
+unfoldable pub entitiesInOrder : List Bytes → Bool
+entitiesInOrder [] = true
+entitiesInOrder (e ∷ []) = true
+entitiesInOrder (e ∷ f ∷ es) = not (isBelow (entityOrder f e)) && entitiesInOrder (f ∷ es)
 
 -- "no level 0, Recovered, thawed freeze, two empty ELR lists or empty topic, metrics or group configs; quota types in order; a next producer
--- id above 0"
+-- id above 0"; by 02, 8, the names of equal types too
 unfoldable pub storable : Kind → Run → Bool
 storable BrokerRegistration r = true
 storable ControllerRegistration r = true
@@ -125,7 +129,7 @@ storable PartitionOffsetAdvance r = true
 storable PartitionElr r = not (isEmpty (value 3 r) && isEmpty (value 4 r))
 storable PartitionRecovery r = not (eqb (number (value 3 r)) 0)
 storable TopicConfig r = isSome (field 2 r)
-storable ClientQuota r = isSome (field 3 r) && typesInOrder (values 1 r)
+storable ClientQuota r = isSome (field 3 r) && entitiesInOrder (values 1 r)
 storable ProducerIds r = ltb 0 (number (value 3 r)) && not (isNegative 8 (number (value 3 r)))
 storable ClientMetricsConfig r = isSome (field 2 r)
 storable GroupConfig r = isSome (field 2 r)
@@ -142,7 +146,7 @@ storable PartitionUpdate r = false
 storable BrokerRegistrationChange r = false
 storable UnregisterController r = false
 
--- an empty group's record: no value, an empty name, and a quota's types in order
+-- an empty group's record: no value, an empty name, and a quota's entities in order
 abbrev pub isConfig : Rec → Bool
 isConfig r = eqb (kindNumber (r .kind)) (kindNumber BrokerConfig)
 
@@ -153,7 +157,7 @@ abbrev pub isBare : Rec → Bool
 isBare r = (isConfig r || isQuota r) && not (isSome (field 3 (r .run)))
 
 unfoldable pub isGroup : Rec → Bool
-isGroup r = isBare r && isEmpty (value 2 (r .run)) && (isConfig r || typesInOrder (values 1 (r .run)))
+isGroup r = isBare r && isEmpty (value 2 (r .run)) && (isConfig r || entitiesInOrder (values 1 (r .run)))
 
 -- "each topic's count is from 0 to its stored partitions' number"
 unfoldable pub storableEntry : List Entry → Entry → Bool

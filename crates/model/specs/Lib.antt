@@ -36,6 +36,7 @@
 --   9, downgrading is done after one pass ................. Downgrade.DowngradeDone, DowngradeKeeps, ListedAdmitted, OnlyRoomRefuses,
 --                                                           Downgrade.ListingReadsBack, NothingWrittenAfter
 --   7, only names that Kafka allows ....................... Validate.lawfulName
+--   8, equal entity types in one order .................... Contents.entityOrder, entitiesInOrder; Quotas.QuotasMeet, OneGroup, LaterStands
 pub mod Choice
 pub mod Number
 pub mod Text
@@ -56,6 +57,7 @@ pub mod Move
 pub mod Validate
 pub mod Apply
 pub mod Snapshot
+pub mod Quotas
 pub mod Lookup
 pub mod Downgrade
 pub mod History

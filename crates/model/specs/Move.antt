@@ -1,5 +1,5 @@
 -- How the image moves: 01's section of that name. Each kind is a short list of moves; `moved` makes them in order.
-use Prim.Native.Nat.{ℕ, zero, suc, _+_, _*_, _-_, _/_, Ordering}
+use Prim.Native.Nat.{ℕ, zero, suc, _+_, _*_, _-_, _/_}
 use mathlib.Core.Bool.{Bool, true, false, cond, _&&_, _||_, not}
 use mathlib.Core.List.{List, [], _∷_, _++_, map}
 use mathlib.Core.Option.{Option, none, some}
@@ -7,13 +7,13 @@ use lib.Dec.{leb, ltb, eqb}
 use lib.ListN.{length, take, drop, replicate}
 use Rattle.model.specs.Choice.{choose, given, isSome, isEmpty}
 use Rattle.model.specs.Number.{Bytes, number, bytes, span, half, place, isNegative}
-use Rattle.model.specs.Order.{Key, compareBytes, compareKeys, sameBytes, isSame}
+use Rattle.model.specs.Order.{Key, compareKeys, sameBytes, isSame}
 use Rattle.model.specs.Run.{Run, done, item, items, runOf, field, value, values, setField, dropField}
 use Rattle.model.specs.Kind.{kindNumber}
 use Rattle.model.specs.Record.{Rec, rec}
 use Rattle.model.specs.Key.{rank, keyRank, keyOf, topicKey, partitionKey, nodeKey, nameKey, producerKey, topicOf}
 use Rattle.model.specs.Map.{put, get, remove, keep, any}
-use Rattle.model.specs.Contents.{Entry, topic, part, plain, key, recordKey, groupOf, inGroupOf, entityType, Fixed, Contents}
+use Rattle.model.specs.Contents.{Entry, topic, part, plain, key, recordKey, groupOf, inGroupOf, entityOrder, Fixed, Contents}
 use Rattle.model.specs.declared.Kind.{Kind}
 use Rattle.model.specs.declared.Kind.the-variants.{Topic, Partition, BrokerRegistration, DeleteTopic, TopicConfig, BrokerConfig, ClientQuota, ProducerIds, UnregisterBroker, KRaftVersion, FeatureLevel, ClientMetricsConfig, FeaturesEpoch}
 use Rattle.model.specs.declared.Kind.the-variants.{PartitionDirAssignment, PartitionOffsetAdvance, GroupConfig, ControllerRegistration, TopicFreeze, BreakGlassProposal, DeleteBreakGlassProposal, PartitionElr, PartitionRecovery, PartitionUpdate, BrokerRegistrationChange, UnregisterController}
@@ -272,10 +272,7 @@ directoryMoves r p =
     given (slotOf (nodeCount (replicas p)) (value 3 r) (replicas p)) [] λ slot.
     directoriesM (keyOf Partition p) (assigned slot (value 4 r) (filled (nodeCount (replicas p)) (directories p))) ∷ []
 
--- "Quota entities are ordered by type, equal types as given": a stable sort by a comparison of entities
-abbrev pub entityOrder : Bytes → Bytes → Ordering
-entityOrder a b = compareBytes (entityType a) (entityType b)
-
+-- 02, 8: "Entities of equal type are now ordered by name bytes, an absent name first": a sort by the comparison of entities
 unfoldable pub insertEntity : Bytes → List Bytes → List Bytes
 insertEntity e [] = e ∷ []
 insertEntity e (x ∷ l) = choose (entityOrder e x) (e ∷ x ∷ l) (e ∷ x ∷ l) (x ∷ insertEntity e l)

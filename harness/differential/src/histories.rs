@@ -8,6 +8,7 @@ mod drawn;
 mod no_image;
 mod passes;
 mod premises;
+mod quotas;
 mod reference;
 mod restart;
 mod short;
@@ -16,6 +17,7 @@ pub use cuts::compare_cuts;
 pub use drawn::compare_drawn;
 pub use no_image::compare_no_image;
 pub use passes::{compare_named_passes, compare_passes};
+pub use quotas::{compare_named_quotas, compare_quotas};
 pub use short::compare_short;
 
 use course::Course;

@@ -8,6 +8,7 @@ pub mod downgrade;
 pub mod exact;
 pub mod facts;
 pub mod generate;
+pub mod held;
 pub mod image;
 pub mod kind;
 pub mod layout;

@@ -2,13 +2,15 @@
 
 use std::collections::BTreeSet;
 
-use krabka_metadata::{DEFAULT_BROKER_CONFIG_NODE_ID, MetadataImage, MetadataRecord, QuotaEntity};
+use krabka_metadata::{DEFAULT_BROKER_CONFIG_NODE_ID, MetadataImage, MetadataRecord};
 use oracle::generate::{Generator, Knobs};
+use oracle::held::is_held;
 use oracle::kind::kind;
 use oracle::names::is_lawful;
 use oracle::observe::{same_record, same_records};
 use oracle::verdict::{ACCEPTED, UNLAWFUL_NAME, judged, offset_leaves_i64};
 use uuid::Uuid;
+use wire::encoded;
 
 const HISTORIES: u64 = 200;
 const STEPS: usize = 80;
@@ -87,10 +89,12 @@ fn signalling(value: f64) -> bool {
     value.is_nan() && value.to_bits() & (1 << 51) == 0
 }
 
-fn equal_types(entities: &[QuotaEntity]) -> bool {
-    entities.windows(2).any(|pair| {
-        pair[0].entity_type == pair[1].entity_type && pair[0].entity_name != pair[1].entity_name
-    })
+/// 02: "Quotas held against the Rust name each type once."
+#[test]
+fn quotas_name_each_type_once() {
+    each_step(Knobs::default(), |_, record| {
+        assert!(is_held(&encoded(record)), "{record:?}");
+    });
 }
 
 /// What a record may have that is easy to get wrong.
@@ -120,7 +124,6 @@ const CORNERS: [Corner; 23] = corners! {
     "signalling NaN": V1ClientQuota(r) if r.config_value.is_some_and(signalling);
     "8 entities": V1ClientQuota(r) if r.entity.len() == 8;
     "no entities": V1ClientQuota(r) if r.entity.is_empty();
-    "equal types": V1ClientQuota(r) if equal_types(&r.entity);
     "64 configs": V1TopicConfig(r) if r.overrides.len() == 64;
     "no configs": V1TopicConfig(r) if r.overrides.is_empty();
     "i64 end": V1PartitionOffsetAdvance(r) if r.count == i64::MIN;

@@ -64,7 +64,7 @@ fn entities_go_element_by_element() {
         rate(&[("ip", None), ("ip", None)], "a"),
         rate(&[("ip", None), ("user", None)], "a"),
         rate(&[("ip", Some(""))], "a"),
-        rate(&[("ip", Some("b")), ("ip", Some("a"))], "a"),
+        rate(&[("ip", Some("a")), ("ip", Some("b"))], "a"),
         rate(&[("ip", Some("c"))], "a"),
         rate(&[("ipa", None)], "a"),
     ]);

@@ -23,6 +23,9 @@ const MOVING: i32 = 695;
 const WIDE: i32 = 60;
 /// As many partitions of 64 replicas.
 const REPLICATED: i32 = 110;
+/// As many quotas of one user, and of eight.
+const OF_ONE: u64 = 1_816;
+const OF_EIGHT: u64 = 463;
 /// The printable ASCII characters that are no space, and the first of them.
 const CHARACTERS: u64 = 94;
 const FIRST: u64 = 33;
@@ -65,6 +68,17 @@ pub fn measure(full: &Full) -> Vec<Worst> {
             changes::exact(
                 "exact test, 110 partitions of 64 replicas",
                 &partitions(REPLICATED, &all(1, 64), &[]).1,
+            ),
+        ),
+        Worst::of(
+            "exact test",
+            changes::exact("exact test, 1,816 quotas of one user", &quotas(OF_ONE, 1)),
+        ),
+        Worst::of(
+            "exact test",
+            changes::exact(
+                "exact test, 463 quotas of eight users",
+                &quotas(OF_EIGHT, 8),
             ),
         ),
         Worst::of(
@@ -132,6 +146,23 @@ fn alike_ids() -> Vec<u8> {
         .map(|number| topic(&two(number), number << 16, 0, 3))
         .collect();
     image(&Subject::of(&records).observed, CAPACITY).expect("topics that fit")
+}
+
+/// Quotas of as many users each, all of one type, so that names decide.
+fn quotas(count: u64, users: u64) -> Vec<u8> {
+    let user = |number| QuotaEntity {
+        entity_type: "user".to_owned(),
+        entity_name: Some(two(number)),
+    };
+    let quota = |number| {
+        MetadataRecord::V1ClientQuota(ClientQuotaRecord {
+            entity: (number * users..(number + 1) * users).map(user).collect(),
+            config_key: "rate".to_owned(),
+            config_value: Some(1.0),
+        })
+    };
+    let records: Vec<_> = (0..count).map(quota).collect();
+    image(&Subject::of(&records).observed, CAPACITY).expect("quotas that fit")
 }
 
 /// No snapshot has empty groups, so that they are restored one by one; they

@@ -1,6 +1,7 @@
 //! Histories with cuts at any places, beside the same ones uncut and beside the
 //! reference; and Restore of bytes that no snapshot wrote.
 
+use oracle::held::is_held;
 use wire::{Random, damaged, decode, hex};
 
 use super::course::Course;
@@ -107,7 +108,8 @@ fn compare_bytes(
 }
 
 /// The history's inputs as they are; the snapshot in its order, twice, cut
-/// anywhere, with any damage, and in another order.
+/// anywhere, with any damage, and in another order. Those that are not held
+/// against the reference are left out.
 fn to_restore(random: &mut Random, snapshot: &[u8], inputs: &[Vec<u8>]) -> Vec<Vec<u8>> {
     let mut all = vec![inputs.concat(), snapshot.to_vec(), snapshot.repeat(2)];
     for _ in 0..DRAWS {
@@ -117,6 +119,7 @@ fn to_restore(random: &mut Random, snapshot: &[u8], inputs: &[Vec<u8>]) -> Vec<V
             all.push(damaged(random, snapshot));
         }
     }
+    all.retain(|run| is_held(run));
     all
 }
 

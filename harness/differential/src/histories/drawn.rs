@@ -2,6 +2,7 @@
 
 use krabka_metadata::{MetadataImage, MetadataRecord};
 use oracle::generate::Generator;
+use oracle::held::is_held;
 use oracle::image::{FIXED_ROOM, MOST_CAPACITY, weight};
 use wire::{Random, damaged, encoded};
 
@@ -91,7 +92,8 @@ fn to_an_end(random: &mut Random, image: &MetadataImage, record: &mut MetadataRe
 
 /// A record, and for some of them copies: cut, with one byte changed, with any
 /// damage, and of a partition with a node twice in the replicas. Some of these
-/// are records too, but never the last.
+/// are records too, but never the last; those that are not held against the
+/// reference are left out.
 fn inputs(random: &mut Random, record: &MetadataRecord) -> Vec<Vec<u8>> {
     let bytes = encoded(record);
     if random.below(DAMAGED) != 0 {
@@ -106,6 +108,7 @@ fn inputs(random: &mut Random, record: &MetadataRecord) -> Vec<Vec<u8>> {
     [bytes, cut, changed, any]
         .into_iter()
         .chain(repeated)
+        .filter(|input| is_held(input))
         .collect()
 }
 

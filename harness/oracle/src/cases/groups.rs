@@ -41,7 +41,7 @@ fn beside_members(cases: &mut Cases) {
 
 /// What may stand in the tail, and in which order.
 fn tail(cases: &mut Cases) {
-    let lists: [(&str, &[MetadataRecord], bool); 13] = [
+    let lists: [(&str, &[MetadataRecord], bool); 14] = [
         ("nodes", &[empty_config(3), empty_config(4)], true),
         ("nodes, turned", &[empty_config(4), empty_config(3)], false),
         ("a node twice", &[empty_config(3), empty_config(3)], false),
@@ -59,8 +59,13 @@ fn tail(cases: &mut Cases) {
         ),
         (
             "equal quota types",
-            &[empty_quota(&[("ip", Some("b")), ("ip", Some("a"))])],
+            &[empty_quota(&[("ip", Some("a")), ("ip", Some("b"))])],
             true,
+        ),
+        (
+            "quota names out of order",
+            &[empty_quota(&[("ip", Some("b")), ("ip", Some("a"))])],
+            false,
         ),
         (
             "quota types out of order",

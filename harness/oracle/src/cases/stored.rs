@@ -52,12 +52,21 @@ fn values(cases: &mut Cases) {
 }
 
 fn good() -> Vec<(&'static str, MetadataRecord)> {
-    let names = [("ip", Some("b")), ("ip", Some("a"))];
+    let names = [("ip", None), ("ip", Some("")), ("ip", Some("a"))];
+    let types = [("ip", Some("b")), ("ip4", Some("a"))];
     vec![
         ("no last known ELR", elr("p", 0, &[1], &[])),
         ("no eligible ELR", elr("p", 0, &[], &[1])),
         ("empty literal scope", freeze("", PatternType::Literal)),
         ("equal quota types", quota(&names, "rate", Some(0.0))),
+        (
+            "equal quota entities",
+            quota(&[names[2]; 8], "rate", Some(0.0)),
+        ),
+        (
+            "a quota type that begins the next",
+            quota(&types, "rate", Some(0.0)),
+        ),
         ("quota of no entities", quota(&[], "rate", Some(f64::NAN))),
         ("empty quota key", quota(&[("user", None)], "", Some(0.0))),
     ]
@@ -65,6 +74,8 @@ fn good() -> Vec<(&'static str, MetadataRecord)> {
 
 fn bad() -> Vec<(&'static str, MetadataRecord)> {
     let types = [("user", None), ("ip", None)];
+    let names = [("ip", Some("b")), ("ip", Some("a"))];
+    let absent = [("ip", Some("")), ("ip", None)];
     vec![
         ("level 0", feature_level("a", 0)),
         ("Recovered", recovered("p", 0)),
@@ -74,6 +85,8 @@ fn bad() -> Vec<(&'static str, MetadataRecord)> {
         ("empty metrics config", metrics_config("m", &[])),
         ("empty group config", group_config("g", &[])),
         ("quota types out of order", quota(&types, "rate", Some(0.0))),
+        ("quota names out of order", quota(&names, "rate", Some(0.0))),
+        ("absent quota name last", quota(&absent, "rate", Some(0.0))),
         (
             "quota without a value",
             quota(&[("user", Some("a"))], "rate", None),

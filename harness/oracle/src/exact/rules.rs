@@ -22,7 +22,7 @@ pub fn is_stored(record: &MetadataRecord) -> bool {
         V1ClientMetricsConfig(r) => !r.configs.is_empty(),
         V1GroupConfig(r) => !r.configs.is_empty(),
         V1BrokerConfig(r) => r.config_value.is_some(),
-        V1ClientQuota(r) => r.config_value.is_some() && types_in_order(&r.entity),
+        V1ClientQuota(r) => r.config_value.is_some() && entities_in_order(&r.entity),
         V1ProducerIds(r) => r.next_producer_id > 0,
         V1FeatureLevel(r) => r.level != 0,
         V1PartitionElr(r) => {
@@ -39,14 +39,15 @@ pub fn is_empty_group(record: &MetadataRecord) -> bool {
     match record {
         MetadataRecord::V1BrokerConfig(r) => r.config_name.is_empty() && r.config_value.is_none(),
         MetadataRecord::V1ClientQuota(r) => {
-            r.config_key.is_empty() && r.config_value.is_none() && types_in_order(&r.entity)
+            r.config_key.is_empty() && r.config_value.is_none() && entities_in_order(&r.entity)
         }
         _ => false,
     }
 }
 
-fn types_in_order(entity: &[QuotaEntity]) -> bool {
-    entity.is_sorted_by(|one, next| one.entity_type <= next.entity_type)
+/// By type, then by name, an absent name first.
+fn entities_in_order(entity: &[QuotaEntity]) -> bool {
+    entity_key(entity).is_sorted()
 }
 
 /// Strictly ascending by key, so without repeats.

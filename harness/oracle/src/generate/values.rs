@@ -1,6 +1,6 @@
 //! The values of a record's fields.
 
-use std::collections::BTreeMap;
+use std::collections::{BTreeMap, BTreeSet};
 use std::ops::{Range, RangeInclusive};
 
 use krabka_metadata::{BreakGlassApproval, BrokerEndpoint, NodeId, QuotaEntity};
@@ -267,14 +267,23 @@ impl Generator {
         }
     }
 
-    /// Entities of few types, so that equal types meet in one list.
+    /// Entities that name each type once: where one would come twice, another
+    /// one that no draw gives stands for it.
     pub(super) fn entities(&mut self) -> Vec<QuotaEntity> {
-        self.list(8, Self::entity)
+        let mut others = (0..).map(|number| format!("type {number}"));
+        let mut types = BTreeSet::new();
+        let mut entities = self.list(8, Self::entity);
+        for entity in &mut entities {
+            while !types.insert(entity.entity_type.clone()) {
+                entity.entity_type = others.next().expect("an endless list");
+            }
+        }
+        entities
     }
 
     fn entity(&mut self) -> QuotaEntity {
         QuotaEntity {
-            entity_type: self.text_of(&["user", "client-id", "user", "ip", ""]),
+            entity_type: self.text_of(&["user", "client-id", "ip", ""]),
             entity_name: self.maybe(65, |g| g.text_of(&["a", "b", ""])),
         }
     }

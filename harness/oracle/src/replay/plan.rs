@@ -7,6 +7,7 @@ use super::run::Run;
 use super::{STEP, STEP_ALWAYS};
 use crate::facts::build::{partition_record, topic};
 use crate::generate::{Generator, Knobs};
+use crate::held::is_held;
 use crate::image::{FIXED_ROOM, MOST_CAPACITY, weight};
 
 /// The first history's seed; from this one the answers have every number.
@@ -71,6 +72,9 @@ impl Plan {
             let mut input = next(&mut generator, &run.image);
             if self.damaged && place.is_multiple_of(ONE_IN) {
                 input = damaged(&mut random, &input);
+            }
+            if !is_held(&input) {
+                continue;
             }
             run.step(self.operation(), &input);
             inputs.push(input);

@@ -31,14 +31,14 @@ returns-3 c =
     group-config _ (n .before .before .before .before .pre) (n .before .before .is-bare .ensures) (not-false _ (n .before .if1 .left))
     (n .is-empty .ensures) (not-false _ (c .before .before .if2 .left)) (c .if3 .taken)
 
-types-in-order-requires : tie.Need-types-in-order-requires
-types-in-order-requires c κs = search needs
+entities-in-order-requires : tie.Need-entities-in-order-requires
+entities-in-order-requires c κs = search needs
 
 returns-4 : tie.Need-returns-4
 returns-4 c =
     let n = c .before .before .before .before in
     group-quota _ (n .before .before .before .before .pre) (n .before .before .is-bare .ensures) (not-false _ (n .before .if1 .left))
-    (n .is-empty .ensures) (not-false _ (c .before .before .before .if2 .left)) (c .before .if3 .left) (c .types-in-order .ensures)
+    (n .is-empty .ensures) (not-false _ (c .before .before .before .if2 .left)) (c .before .if3 .left) (c .entities-in-order .ensures)
 
 pub is-group-spec : {M : Type 1} → statement M
 is-group-spec =
@@ -50,5 +50,5 @@ is-group-spec =
     returns-2
     shared-slice-read-if3
     returns-3
-    types-in-order-requires
+    entities-in-order-requires
     returns-4)

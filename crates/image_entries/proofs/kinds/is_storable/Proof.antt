@@ -30,8 +30,8 @@ has-requires-2 c κs = search needs
 has-requires-3 : tie.Need-has-requires-3
 has-requires-3 c κs = search needs
 
-types-in-order-requires : tie.Need-types-in-order-requires
-types-in-order-requires c κs = search needs
+entities-in-order-requires : tie.Need-entities-in-order-requires
+entities-in-order-requires c κs = search needs
 
 value-number-requires : tie.Need-value-number-requires
 unfolding rowsOf shapeOf kindNumber
@@ -91,7 +91,7 @@ returns-6 c = c .has2 .ensures ∙ by-kind _ (c .before .before .before .before 
 returns-7 : tie.Need-returns-7
 unfolding storable kindNumber
 returns-7 c =
-    both-second _ (c .before .before .has3 .ensures) (c .before .if1 .taken) (c .types-in-order .ensures)
+    both-second _ (c .before .before .has3 .ensures) (c .before .if1 .taken) (c .entities-in-order .ensures)
     ∙ by-kind _ (c .before .before .before .before .before .before .pre) ClientQuota (c .before .before .before .match .keys7)
 
 returns-8 : tie.Need-returns-8
@@ -200,7 +200,7 @@ is-storable-spec =
     has-requires
     has-requires-2
     has-requires-3
-    types-in-order-requires
+    entities-in-order-requires
     value-number-requires
     is-positive-requires
     value-number-requires-2

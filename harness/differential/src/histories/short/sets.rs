@@ -92,18 +92,18 @@ fn broker_configs() -> Vec<MetadataRecord> {
     ]
 }
 
-/// Entities in two orders: of two types one key, of one type two keys.
+/// Entities of two types in two orders: one key.
 fn quotas() -> Vec<MetadataRecord> {
-    let (user, other) = (("user", Some("a")), ("user", Some("b")));
-    let client = ("client-id", None);
+    let (user, client) = (("user", Some("a")), ("client-id", None));
+    let other = ("user", Some("b"));
     vec![
         quota(&[user, client], "rate", Some(1.0)),
         quota(&[client, user], "rate", Some(-0.0)),
         quota(&[client, user], "rate", None),
         quota(&[user, client], "", None),
-        quota(&[user, other], "rate", Some(f64::NAN)),
-        quota(&[other, user], "rate", Some(2.0)),
-        quota(&[other, user], "rate", None),
+        quota(&[other, client], "rate", Some(f64::NAN)),
+        quota(&[client, other], "rate", Some(2.0)),
+        quota(&[client, other], "rate", None),
         quota(&[], "", Some(0.0)),
         quota(&[], "", None),
     ]

@@ -1,11 +1,11 @@
--- `types::types_in_order` meets its contract. The invariant: the types still to come are in order after the last exactly if all are in order.
+-- `entities::entities_in_order` meets its contract. The invariant: the entities still to come are in order after the last one exactly if all are.
 use Prim.Native.Nat.{_-_, _+_}
 use native.Mathlib.Omega.{arith}
 use borrow.Author.Needs.{needs}
 use Rattle.keys.proofs.Elements.{Stands}
 use Rattle.image_entries.proofs.InOrder.{Ordered, ordered-start, other-left, torn-left, ended-left, entity, below, not-below}
-use Rattle.image_entries.proofs.types.types_in_order.Statement.{statement}
-use Rattle.image_entries.proofs.types.types_in_order.Tie as tie
+use Rattle.image_entries.proofs.entities.entities_in_order.Statement.{statement}
+use Rattle.image_entries.proofs.entities.entities_in_order.Tie as tie
 
 abbrev Inv-loop : tie.InvT-loop
 Inv-loop e c₀ last₀ c last = Ordered e c last
@@ -38,29 +38,26 @@ found c =
 add-end : tie.Need-add-end Inv-loop μ-loop
 add-end c = let t = found c in omega (arith, t .most)
 
-type-of-requires : tie.Need-type-of-requires Inv-loop μ-loop
-type-of-requires c κs = let t = found c in (t .forward, t .most)
-
 is-below-requires : tie.Need-is-below-requires Inv-loop μ-loop
 is-below-requires c κs =
-    let k = c .type-of .ensures .inside in
-    let l = c .before .before .before .before .before .before .loop .inv .before in
-    ((omega arith, omega arith), (omega arith, omega arith))
+    let t = found c in
+    let l = c .before .before .before .before .before .loop .inv .before in
+    ((omega (arith, t .forward), omega (arith, t .most)), (omega (arith, t .forward), omega (arith, t .most)))
 
 returns-2 : tie.Need-returns-2 Inv-loop μ-loop
 returns-2 c =
-    let n = c .before .before .before .before .before .before .before in
-    below (n .before .loop .inv) (n .next .ensures) (c .before .before .before .before .before .tag .given .1) (c .before .before .before .if1 .left)
-    (c .before .before .type-of .ensures) (c .before .is-below .ensures) (c .if2 .taken)
+    let n = c .before .before .before .before .before .before in
+    below (n .before .loop .inv) (n .next .ensures) (c .before .before .before .before .tag .given .1) (c .before .before .if1 .left)
+    (c .before .is-below .ensures) (c .if2 .taken)
 
 loop-less : tie.Need-loop-less Inv-loop μ-loop
-loop-less c = let t = found (c .before .before .before) in omega (arith, t .onwards, t .ends, t .inside)
+loop-less c = let t = found (c .before .before) in omega (arith, t .onwards, t .ends, t .inside)
 
 loop-again : tie.Need-loop-again Inv-loop μ-loop
 loop-again c =
-    let n = c .before .before .before .before .before .before .before in
-    not-below (n .before .loop .inv) (n .next .ensures) (c .before .before .before .before .before .tag .given .1) (c .before .before .before .if1 .left)
-    (c .before .before .type-of .ensures) (c .before .is-below .ensures) (c .if2 .left)
+    let n = c .before .before .before .before .before .before in
+    not-below (n .before .loop .inv) (n .next .ensures) (c .before .before .before .before .tag .given .1) (c .before .before .if1 .left)
+    (c .before .is-below .ensures) (c .if2 .left)
 
 enum-told : tie.Need-enum-told Inv-loop μ-loop
 enum-told c = search needs
@@ -74,8 +71,8 @@ enum-told-2 c = search needs
 returns-4 : tie.Need-returns-4 Inv-loop μ-loop
 returns-4 c = ended-left (c .before .before .before .loop .inv) (c .before .before .next .ensures) (c .enum-told2 .given .1)
 
-pub types-in-order-spec : {M : Type 1} → statement M
-types-in-order-spec =
+pub entities-in-order-spec : {M : Type 1} → statement M
+entities-in-order-spec =
     tie.close
     (tie.spec
     Inv-loop
@@ -85,7 +82,6 @@ types-in-order-spec =
     enum-known-tag
     returns
     add-end
-    type-of-requires
     is-below-requires
     returns-2
     loop-less
