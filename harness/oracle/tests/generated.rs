@@ -109,7 +109,7 @@ macro_rules! corners {
     };
 }
 
-const CORNERS: [Corner; 23] = corners! {
+const CORNERS: [Corner; 22] = corners! {
     "name of 249 bytes": V1Topic(r) if r.name.len() == 249;
     "name of dots": V1Topic(r) if r.name == "...";
     "i16 end": V1Topic(r) if r.replication_factor == i16::MIN;
