@@ -3,6 +3,7 @@ pub mod Steps
 pub mod Records
 pub mod Seeks
 pub mod Turns
+pub mod Before
 pub mod Changes
 pub mod Parts
 pub mod Lookups

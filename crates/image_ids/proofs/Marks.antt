@@ -20,10 +20,11 @@ use Rattle.laws.specs.Lists.{All, all-any, all-imp, all-append, every-true, all
 use Rattle.entries.specs.Entries.{recordsIn, Entries, recordIn}
 use Rattle.entries.specs.declared.Cursor.{Cursor}
 use Rattle.entries.proofs.Turns.{Stands}
+use Rattle.entries.proofs.Before.{up-to, all-records}
 use Rattle.image_ids.specs.Ids.{isNamed, idOf, placeOf}
 use Rattle.image_ids.proofs.Named.{record-names}
 use Rattle.image_ids.proofs.Apart.{Apart, one-more, shared}
-use Rattle.image_ids.proofs.Turns.{next-end, record-here, rest, up-to, all-records}
+use Rattle.image_ids.proofs.Turns.{next-end, record-here, rest}
 use Rattle.image_ids.proofs.Scans.{noneIn}
 
 -- 1. Lists of records

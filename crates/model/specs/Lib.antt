@@ -33,6 +33,7 @@
 -- 02's requests
 --   1, short leaves the adding replicas out ............... Nodes.outside, Lookup.expected
 --   2, no node twice in a replica list .................... Nodes.noRepeats, Shape.nodeSet, Record.replicasApart
+--   3, one running total in Snapshot ...................... Snapshot.lengths; the contracts of crates/snapshot
 --   9, downgrading is done after one pass ................. Downgrade.DowngradeDone, DowngradeKeeps, ListedAdmitted, OnlyRoomRefuses,
 --                                                           Downgrade.ListingReadsBack, NothingWrittenAfter
 --   7, only names that Kafka allows ....................... Validate.lawfulName

@@ -4,7 +4,7 @@ use mathlib.Core.Bool.{Bool, cond}
 use mathlib.Core.List.{List, [], _∷_, _++_, map}
 use lib.Dec.{eqb}
 use lib.ListN.{length}
-use Rattle.model.specs.Choice.{joined, folded}
+use Rattle.model.specs.Choice.{joined, folded, total}
 use Rattle.model.specs.Number.{Bytes, number, bytes, span, isNegative}
 use Rattle.model.specs.Order.{Key, sameBytes}
 use Rattle.model.specs.Run.{done, item}
@@ -25,6 +25,10 @@ use Rattle.model.specs.declared.Kind.the-variants.{FeatureLevel, Feature
 -- records into an output: 0 with a prefix written, or 19. Every reading operation ends here, so that equal records give equal answers
 unfoldable pub emit : List Rec → Bytes → Ended
 emit rs out = emitBytes (joined recordBytes rs) out
+
+-- how long records are together. 02, 3: "the total it gets is the sum of the earlier records' lengths"
+abbrev pub lengths : List Rec → ℕ
+lengths rs = total (λ r. length (recordBytes r)) rs
 
 -- the records before the entries' (none), and after them: the epoch unless it is negative, the kraft version unless it is 0
 abbrev pub lead : Fixed → List Rec

@@ -1,3 +1,4 @@
+pub mod Totals
 pub mod Trails
 pub mod Passes
 pub mod Emits

@@ -1,29 +1,31 @@
 -- A walk over entries: how long the records of those to come are, and what is written of those that are passed.
-use mathlib.Core.Path.{_≡_, sym, ap, ap₂, _∙_, subst}
-use mathlib.Core.Bool.{Bool, true, false, cond}
-use mathlib.Core.List.{[], _++_}
+use mathlib.Core.Path.{_≡_, refl, sym, ap, ap₂, _∙_, subst}
+use mathlib.Core.List.{[], _∷_, _++_}
 use Prim.Native.Nat.{ℕ, _+_, _-_, _≤_}
 use native.Mathlib.Omega.{arith}
-use lib.Dec.{eqb}
-use lib.ListN.{length, take, drop, getD, length-append}
+use lib.ListN.{length, take, drop, length-append}
 use lib.Seq.{length-slice}
-use Rattle.model.specs.Choice.{joined}
-use Rattle.model.specs.Number.{Bytes}
+use Rattle.model.specs.Choice.{joined, total}
+use Rattle.model.specs.Number.{Bytes, AreBytes}
 use Rattle.model.specs.Record.{Rec, recordBytes}
 use Rattle.model.specs.Contents.{returned}
+use Rattle.model.specs.Items.{itemsFrom, records, isWhole}
 use Rattle.model.specs.Image.{entryOf}
 use Rattle.records.specs.Answers.{putAt}
 use Rattle.keys.proofs.Found.{lent-slice}
-use Rattle.entries.specs.Entries.{recordsIn, Entries, sizeAt}
+use Rattle.entries.specs.Entries.{recordsIn, recordIn, Entries, sizeAt}
 use Rattle.entries.specs.declared.Cursor.{Cursor}
 use Rattle.entries.proofs.Turns.{Stands, lent}
-use Rattle.image_entries.proofs.Turns.{forward, inside, next-at, past-end, is-record}
-use Rattle.find.specs.Returned.{flagSize, Entire, returnedSize, returnedBytes}
+use Rattle.entries.proofs.Before.{up-to}
+use Rattle.image_entries.proofs.Turns.{forward, inside, next-at, past-end, is-record, entry-is}
+use Rattle.find.specs.Returned.{Entire, returnedSize, returnedBytes}
 use Rattle.find.proofs.Puts.{length-returned}
 use Rattle.find.proofs.Records.{record-returned}
 use Rattle.find.specs.Found.{AllKept}
 use Rattle.find.proofs.Finds.{entire}
-use Rattle.snapshot.specs.Returned.{returnedIn}
+use Rattle.model.specs.Snapshot.{lengths}
+use Rattle.snapshot.specs.Returned.{returnedRecords, returnedIn, returnedAt, Behind}
+use Rattle.snapshot.proofs.Totals.{lengths-returned, size-low, here-bytes}
 use Rattle.records.proofs.Growing.{Growing, grow-start, part-fits, grow, grown}
 
 -- 1. The entries to come
@@ -65,14 +67,6 @@ pub record Counted (s : Bytes) (at n : ℕ) : Type 0 where
 pub count-start : (s : Bytes) → Entries s → AllKept (recordsIn s) → Counted s 0 0
 count-start s e k = record { ahead = record { entries = e; keeps = k }; sum = omega arith; few = omega arith; within = omega arith }
 
--- a record is no longer than its entry
-size-low : (e : Bytes) → returnedSize e ≤ length e
-size-low e = go (eqb (getD e 0 0) 1)
-  where
-    go : (b : Bool) → cond b (length e - flagSize) (length e) ≤ length e
-    go true = omega arith
-    go false = omega arith
-
 module _ {s : Bytes} {at n : ℕ} (h : Counted s at n) where
   pub counted : length s ≤ at → (n ≡ length (returnedIn s)) × (n ≤ length s)
   counted past = (omega (arith, h .sum, ap length (none-to-come s at past)), omega (arith, h .few, h .within))
@@ -98,26 +92,58 @@ module _ {s : Bytes} {at n : ℕ} (h : Counted s at n) where
 
 -- 3. What is written
 
+-- the total is the sum of the lengths of the records that are placed
 pub record Wrote (s out w : Bytes) (at n : ℕ) : Type 0 where
   pub ahead : Ahead s at
+  pub passed : Entries (take at s)
+  pub sum : n ≡ lengths (returnedRecords (take at s))
   pub grows : Growing out w 0 n (returnedIn s) (returnedIn (drop at s))
 
 pub write-start : (s out : Bytes) → Entries s → AllKept (recordsIn s) → length (returnedIn s) ≤ length out → Wrote s out out 0 0
-write-start s out e k fits = record { ahead = record { entries = e; keeps = k }; grows = grow-start out 0 (returnedIn s) (omega arith) }
+unfolding itemsFrom records isWhole total
+write-start s out e k fits = record {
+  ahead = record { entries = e; keeps = k };
+  passed = refl;
+  sum = refl;
+  grows = grow-start out 0 (returnedIn s) (omega arith);
+}
 
 module _ {s out w : Bytes} {at n : ℕ} (h : Wrote s out w at n) where
-  pub wrote : length s ≤ at → (n ≡ length (returnedIn s)) × (w ≡ putAt out 0 (returnedIn s))
-  wrote past = let all = grown (h .grows) (none-to-come s at past) in (omega (arith, all .0), all .1)
+  pub wrote : length s ≤ at → (n ≡ lengths (returnedRecords s)) × (w ≡ putAt out 0 (returnedIn s))
+  wrote past = let all = grown (h .grows) (none-to-come s at past) in (omega (arith, all .0, lengths-returned s), all .1)
 
-  module _ {start end : ℕ} {next : Cursor} (t : Stands s at start end next) where
+  module _ {start end : ℕ} {next : Cursor} (t : Stands s at start end next) (areBytes : AreBytes s) where
     abbrev here : Bytes
-    here = returnedBytes (take (end - start) (drop start s))
+    here = take (end - start) (drop start s)
 
-    pub entry-fits : n + returnedSize (take (end - start) (drop start s)) ≤ length w
-    entry-fits = omega (arith, part-fits (h .grows) here (returnedIn (drop (next .at) s)) (one-to-come t (h .ahead)), here-size t)
+    pub behind : Behind s start end
+    behind =
+        let up = up-to t areBytes (h .passed) in
+        let one : recordIn here ≡ t .entry .entry = entry-is t in
+        record {
+          order = omega (arith, forward t);
+          fits = omega (arith, inside t);
+          is = is-record t;
+          keeps = rw one ((subst AllKept (t .entry .list) (h .ahead .keeps)) .0);
+          joins = up .0 ∙ ap₂ (λ x r. recordsIn (take x s) ++ r ∷ []) (sym (t .first)) (sym one);
+        }
 
-    pub write-turn : {v : Bytes} → v ≡ putAt w n here → {m : ℕ} → m ≡ returnedSize (take (end - start) (drop start s)) → Wrote s out v (next .at) (n + m)
-    write-turn ev em = record {
-      ahead = one-further t (h .ahead);
-      grows = grow (h .grows) here (returnedIn (drop (next .at) s)) (one-to-come t (h .ahead)) (omega (arith, em, here-size t), ev);
-    }
+    pub sum-before : n ≡ lengths (returnedRecords (take start s))
+    sum-before = h .sum ∙ ap (λ x. lengths (returnedRecords (take x s))) (sym (t .first))
+
+    pub entry-fits : n + length (recordBytes (returnedAt s start end)) ≤ length w
+    entry-fits =
+        omega (arith, part-fits (h .grows) (returnedBytes here) (returnedIn (drop (next .at) s)) (one-to-come t (h .ahead)), ap length (here-bytes behind))
+
+    pub write-turn : {v : Bytes} {m : ℕ} → (m ≡ n + length (recordBytes (returnedAt s start end))) × (m ≡ lengths (returnedRecords (take end s)))
+        → v ≡ putAt w n (recordBytes (returnedAt s start end)) → Wrote s out v (next .at) m
+    write-turn em ev =
+        let end-is : end ≡ next .at = sym (ap (λ c. c .at) (t .after)) in
+        record {
+          ahead = one-further t (h .ahead);
+          passed = subst (λ x. Entries (take x s)) end-is (up-to t areBytes (h .passed) .1);
+          sum = em .1 ∙ ap (λ x. lengths (returnedRecords (take x s))) end-is;
+          grows =
+              grow (h .grows) (returnedBytes here) (returnedIn (drop (next .at) s)) (one-to-come t (h .ahead))
+              (em .0 ∙ ap (λ b. n + length b) (here-bytes behind), ev ∙ ap (putAt w n) (here-bytes behind));
+        }

@@ -1,16 +1,20 @@
 -- The records of the fixed parts.
 use mathlib.Core.Path.{_≡_, refl, sym, ap, _∙_}
-use mathlib.Core.List.{[], _++_, append-assoc}
-use Prim.Native.Nat.{ℕ, _+_, _≤_, _<_}
+use mathlib.Core.List.{List, [], _++_, append-assoc}
+use mathlib.Core.Bool.{Bool, true, false}
+use Prim.Native.Nat.{ℕ, zero, suc, _+_, _≤_, _<_}
 use native.Mathlib.Omega.{arith}
-use borrow.Author.Tests.{lt-leb, le-leb, ne-eqb}
+use borrow.Author.Tests.{lt-leb, le-leb, leb-true, leb-false, ne-eqb}
+use lib.Dec.{leb}
 use lib.ListN.{length, take, drop}
+use Rattle.model.specs.Choice.{joined}
 use Rattle.model.specs.Number.{Bytes, bytes, half}
 use Rattle.model.specs.Run.{bytesOf}
 use Rattle.model.specs.Kind.{kindNumber}
-use Rattle.model.specs.Record.{recordBytes}
-use Rattle.model.specs.Snapshot.{epochRecords, kraftRecords}
+use Rattle.model.specs.Record.{Rec, recordBytes}
+use Rattle.model.specs.Snapshot.{lengths, epochRecords, kraftRecords}
 use Rattle.laws.specs.Numbers.{length-bytes}
+use Rattle.laws.specs.Lists.{length-joined}
 use Rattle.records.specs.Answers.{putAt, head}
 use Rattle.records.proofs.Written.{put-at-nothing, put-at-append}
 use Rattle.snapshot.specs.Returned.{numberBytes, epochBytes, kraftBytes}
@@ -43,6 +47,13 @@ pub epoch-none : (e : ℕ) → half 8 ≤ e → epochBytes e ≡ []
 unfolding epochRecords
 epoch-none e h = rw (le-leb (half 8) e h) refl
 
+pub epoch-most : (e : ℕ) → length (epochBytes e) ≤ 14
+epoch-most e = go (leb (half 8) e) refl
+  where
+    go : (b : Bool) → leb (half 8) e ≡ b → length (epochBytes e) ≤ 14
+    go true h = omega (arith, ap length (epoch-none e (leb-true (half 8) e h)))
+    go false h = omega (arith, ap length (epoch-some e (leb-false (half 8) e h)), length-number 13 8 e)
+
 -- 3. The kraft version, unless it is 0
 
 pub kraft-some : (v : ℕ) → (v ≡ 0 → ⊥) → kraftBytes v ≡ numberBytes 10 2 v
@@ -53,11 +64,20 @@ pub kraft-none : (v : ℕ) → v ≡ 0 → kraftBytes v ≡ []
 unfolding kraftRecords
 kraft-none v h = rw h refl
 
--- what is written where there is a record, and where there is none
-module _ {s : Bytes} (out : Bytes) (at : ℕ) where
-  pub put-some : (kind width n : ℕ) → s ≡ numberBytes kind width n → {r : ℕ} {w : Bytes} → (r ≡ at + 6 + width) × (w ≡ putAt out at (numberBytes kind width n))
-      → (r ≡ at + length s) × (w ≡ putAt out at s)
-  put-some kind width n e h = rw e (omega (arith, h .0, length-bytes width n), h .1)
+pub kraft-most : (v : ℕ) → length (kraftBytes v) ≤ 8
+kraft-most zero = omega (arith, ap length (kraft-none 0 refl))
+kraft-most (suc v) = omega (arith, ap length (kraft-some (suc v) (λ e. omega (arith, e))), length-number 10 2 (suc v))
 
-  pub put-none : s ≡ [] → (at ≡ at + length s) × (out ≡ putAt out at s)
-  put-none e = rw e (omega arith, sym (put-at-nothing out at))
+-- 4. A record of the fixed parts behind the others, where there is one
+
+module _ (rs : List Rec) (out : Bytes) (before : ℕ) where
+  pub number-fits : (kind width n : ℕ) → joined recordBytes rs ≡ numberBytes kind width n → before + lengths rs ≤ length out → before + 6 + width ≤ length out
+  number-fits kind width n e fits = omega (arith, length-joined recordBytes rs, ap length e, length-number kind width n)
+
+  pub put-some : (kind width n : ℕ) → joined recordBytes rs ≡ numberBytes kind width n → {r : ℕ} {w : Bytes}
+      → (r ≡ before + 6 + width) × (w ≡ putAt out before (numberBytes kind width n)) → (r ≡ before + lengths rs) × (w ≡ putAt out before (joined recordBytes rs))
+  put-some kind width n e h =
+      (omega (arith, h .0, length-joined recordBytes rs, ap length e, length-number kind width n), h .1 ∙ ap (putAt out before) (sym e))
+
+  pub put-none : joined recordBytes rs ≡ [] → (before ≡ before + lengths rs) × (out ≡ putAt out before (joined recordBytes rs))
+  put-none e = (omega (arith, length-joined recordBytes rs, ap length e), sym (put-at-nothing out before) ∙ ap (putAt out before) (sym e))

@@ -1,24 +1,54 @@
--- The bytes of an image's records.
-use mathlib.Core.List.{_++_}
-use Prim.Native.Nat.{ℕ, _+_}
+-- An image's records, in the order in which they are placed, and how long they are.
+use mathlib.Core.Path.{_≡_}
+use mathlib.Core.List.{List, [], _∷_, _++_, map}
+use Prim.Native.Nat.{ℕ, _+_, _-_, _≤_}
+use lib.ListN.{length, take, drop}
 use Rattle.model.specs.Choice.{joined}
 use Rattle.model.specs.Number.{Bytes, bytes}
-use Rattle.model.specs.Record.{recordBytes}
-use Rattle.model.specs.Contents.{returned}
-use Rattle.model.specs.Image.{entryOf}
+use Rattle.model.specs.Record.{Rec, recordBytes}
+use Rattle.model.specs.Contents.{kept, returned}
+use Rattle.model.specs.Image.{entryOf, fixedIn, contentsOf}
 use Rattle.model.specs.Snapshot.{epochRecords, kraftRecords}
 use Rattle.records.specs.Answers.{head}
-use Rattle.entries.specs.Entries.{recordsIn}
+use Rattle.entries.specs.Entries.{recordsIn, IsRecord, recordIn}
 
--- the records that entries are returned as
+-- 1. The entries' records
+
+-- the records that entries are returned as, and their bytes
+abbrev pub returnedRecords : Bytes → List Rec
+returnedRecords s = map (λ r. returned (entryOf r)) (recordsIn s)
+
 abbrev pub returnedIn : Bytes → Bytes
 returnedIn s = joined (λ r. recordBytes (returned (entryOf r))) (recordsIn s)
+
+-- the record of the entry from one place to another
+abbrev pub returnedAt : Bytes → ℕ → ℕ → Rec
+returnedAt s start end = returned (entryOf (recordIn (take (end - start) (drop start s))))
+
+-- an entry behind others: those up to its end are those before it, and then it
+pub record Behind (s : Bytes) (start end : ℕ) : Type 0 where
+  pub order : start ≤ end
+  pub fits : end ≤ length s
+  pub is : IsRecord (take (end - start) (drop start s))
+  pub keeps : kept (entryOf (recordIn (take (end - start) (drop start s)))) ≡ recordIn (take (end - start) (drop start s))
+  pub joins : recordsIn (take end s) ≡ recordsIn (take start s) ++ recordIn (take (end - start) (drop start s)) ∷ []
+
+-- 2. The records of an image: its entries', and behind them those of the fixed parts
+
+abbrev pub entryRecords : Bytes → List Rec
+entryRecords image = map returned (contentsOf image .real)
+
+abbrev pub epochIn : Bytes → List Rec
+epochIn image = epochRecords (fixedIn image .epoch)
+
+abbrev pub kraftIn : Bytes → List Rec
+kraftIn image = kraftRecords (fixedIn image .kraft)
 
 -- a record whose one field is a number
 abbrev pub numberBytes : ℕ → ℕ → ℕ → Bytes
 numberBytes kind width n = head kind (3 + width) ++ head 1 width ++ bytes width n
 
--- the records of the fixed parts
+-- the bytes of the fixed parts' records
 abbrev pub epochBytes : ℕ → Bytes
 epochBytes e = joined recordBytes (epochRecords e)
 

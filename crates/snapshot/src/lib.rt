@@ -16,19 +16,27 @@ use model::refusals::TOO_SHORT;
 use records::put_head;
 ghost use mathlib.Core.Path.{_≡_};
 ghost use mathlib.Core.Bool.{true};
+ghost use mathlib.Core.List.{_++_};
 ghost use Prim.Native.Nat.{_+_, _≤_};
-ghost use lib.ListN.{length};
-ghost use Rattle.model.specs.Image.{isImage, contentsOf};
-ghost use Rattle.model.specs.Snapshot.{snapshot as snapshotRecords, emit, snapshotOf};
+ghost use lib.Dec.{ltb};
+ghost use lib.ListN.{length, take};
+ghost use Rattle.model.specs.Choice.{joined};
+ghost use Rattle.model.specs.Record.{recordBytes};
+ghost use Rattle.model.specs.Image.{headSize, isImage, contentsOf};
+ghost use Rattle.model.specs.Snapshot.{lengths, snapshot as snapshotRecords, emit, snapshotOf};
 ghost use Rattle.model.specs.Answers.{replied};
 ghost use Rattle.records.specs.Answers.{putAt};
 ghost use Rattle.entries.specs.Entries.{recordsIn, Entries};
 ghost use Rattle.find.specs.Found.{AllKept};
-ghost use Rattle.snapshot.specs.Returned.{returnedIn, numberBytes, epochBytes, kraftBytes};
+ghost use Rattle.find.specs.Reals.{Reals};
+ghost use Rattle.snapshot.specs.Returned.{returnedRecords, returnedIn, returnedAt, Behind, entryRecords, epochIn, kraftIn, numberBytes, epochBytes, kraftBytes};
 
 const NEGATIVE: u64 = 0x8000_0000_0000_0000;
 
 const NO_VERSION: u64 = 0;
+
+// How long the records of the epoch and the kraft version are at most.
+const FIXED_MOST: usize = 14 + 8;
 
 // How long the records of some entries are.
 fn returned_length(s: &[u8]) -> usize
@@ -53,25 +61,35 @@ fn returned_length(s: &[u8]) -> usize
     }
 }
 
-// Writes the records of some entries to the start of an output. How many bytes they are.
+// Places an entry's record behind the earlier ones: `total` is how long those are. The total with this one.
+fn place_entry(out: &mut [u8], total: usize, s: &[u8], start: usize, end: usize) -> usize
+    requires { ⌜ Behind (now s) start end × (total ≡ lengths (returnedRecords (take start (now s)))) ⌝ }
+    requires { ⌜ total + length (recordBytes (returnedAt (now s) start end)) ≤ length (now out) ⌝ }
+    ensures { λ r. ⌜ (r ≡ total + length (recordBytes (returnedAt (now (s .entry)) start end))) × (r ≡ lengths (returnedRecords (take end (now (s .entry))))) ⌝ }
+    ensures { λ _. ⌜ now (out .exit) ≡ putAt (now (out .entry)) total (recordBytes (returnedAt (now (s .entry)) start end)) ⌝ }
+{
+    put_returned(out, total, &s[start..end]);
+    total + returned_size(&s[start..end])
+}
+
+// Places the records of some entries from the start of an output on. How long they are.
 fn put_entries(out: &mut [u8], s: &[u8]) -> usize
     requires { ⌜ Entries (now s) × AllKept (recordsIn (now s)) × (length (returnedIn (now s)) ≤ length (now out)) ⌝ }
-    ensures { λ r. ⌜ (r ≡ length (returnedIn (now (s .entry)))) × (now (out .exit) ≡ putAt (now (out .entry)) 0 (returnedIn (now (s .entry)))) ⌝ }
+    ensures { λ r. ⌜ (r ≡ lengths (returnedRecords (now (s .entry)))) × (now (out .exit) ≡ putAt (now (out .entry)) 0 (returnedIn (now (s .entry)))) ⌝ }
 {
     let mut c = Cursor { at: 0 };
-    let mut n = 0;
+    let mut total = 0;
     loop {
         match c.next(s) {
             Step::Entry(start, end, next) => {
                 c = next;
-                put_returned(out, n, &s[start..end]);
-                n = n + returned_size(&s[start..end]);
+                total = place_entry(out, total, s, start, end);
             }
             Step::Torn => {
-                return n;
+                return total;
             }
             Step::End => {
-                return n;
+                return total;
             }
         }
     }
@@ -108,26 +126,43 @@ fn kraft_length(kraft: u64) -> usize
     8
 }
 
-// Writes the epoch's record, where there is one. Where it ends.
-fn put_epoch(out: &mut [u8], at: usize, epoch: u64) -> usize
-    requires { ⌜ at + length (epochBytes epoch) ≤ length (now out) ⌝ }
-    ensures { λ r. ⌜ (r ≡ at + length (epochBytes epoch)) × (now (out .exit) ≡ putAt (now (out .entry)) at (epochBytes epoch)) ⌝ }
+// Places the epoch's record, where there is one, behind the entries': `total` is how long those are. The total with this one.
+fn put_epoch(out: &mut [u8], total: usize, image: &[u8]) -> usize
+    requires { ⌜ (headSize ≤ length (now image)) × (total ≡ lengths (entryRecords (now image))) ⌝ }
+    requires { ⌜ total + lengths (epochIn (now image)) ≤ length (now out) ⌝ }
+    ensures { λ r. ⌜ (r ≡ total + lengths (epochIn (now (image .entry)))) × (now (out .exit) ≡ putAt (now (out .entry)) total (joined recordBytes (epochIn (now (image .entry))))) ⌝ }
 {
+    let epoch = epoch_in(image);
     if epoch < NEGATIVE {
-        return put_number(out, at, FEATURES_EPOCH, 8, epoch);
+        return put_number(out, total, FEATURES_EPOCH, 8, epoch);
     }
-    at
+    total
 }
 
-// Writes the kraft version's record, where there is one. Where it ends.
-fn put_kraft(out: &mut [u8], at: usize, kraft: u64) -> usize
-    requires { ⌜ at + length (kraftBytes kraft) ≤ length (now out) ⌝ }
-    ensures { λ r. ⌜ (r ≡ at + length (kraftBytes kraft)) × (now (out .exit) ≡ putAt (now (out .entry)) at (kraftBytes kraft)) ⌝ }
+// Places the kraft version's record, where there is one, behind those: `total` is how long they are. The total with this one.
+fn put_kraft(out: &mut [u8], total: usize, image: &[u8]) -> usize
+    requires { ⌜ (headSize ≤ length (now image)) × (total ≡ lengths (entryRecords (now image) ++ epochIn (now image))) ⌝ }
+    requires { ⌜ total + lengths (kraftIn (now image)) ≤ length (now out) ⌝ }
+    ensures { λ r. ⌜ (r ≡ total + lengths (kraftIn (now (image .entry)))) × (now (out .exit) ≡ putAt (now (out .entry)) total (joined recordBytes (kraftIn (now (image .entry))))) ⌝ }
 {
+    let kraft = kraft_in(image);
     if kraft == NO_VERSION {
-        return at;
+        return total;
     }
-    put_number(out, at, KRAFT_VERSION, 2, kraft)
+    put_number(out, total, KRAFT_VERSION, 2, kraft)
+}
+
+// Whether an output is too short for an image's records, whose entries end at `end`. They are no longer than the entries and the two longest
+// records of the fixed parts: only an output that is shorter than that is held to their very length, which takes a walk.
+fn is_too_short(image: &[u8], end: usize, room: usize) -> bool
+    requires { ⌜ Reals (now image) end ⌝ }
+    ensures { λ r. ⌜ r ≡ ltb room (lengths (snapshotRecords (contentsOf (now (image .entry))))) ⌝ }
+{
+    if end - HEAD_SIZE + FIXED_MOST <= room {
+        return false;
+    }
+    let entries = returned_length(&image[HEAD_SIZE..end]);
+    room < entries + epoch_length(epoch_in(image)) + kraft_length(kraft_in(image))
 }
 
 // Writes an image's records. The bytes written, or 19 and nothing is written.
@@ -137,15 +172,12 @@ fn emit_records(image: &[u8], out: &mut [u8]) -> Answer
     ensures { λ _. ⌜ now (out .exit) ≡ emit (snapshotRecords (contentsOf (now (image .entry)))) (now (out .entry)) .buffer ⌝ }
 {
     let end = reals_end(image);
-    let epoch = epoch_in(image);
-    let kraft = kraft_in(image);
-    let n = returned_length(&image[HEAD_SIZE..end]) + epoch_length(epoch) + kraft_length(kraft);
-    if out.len() < n {
+    if is_too_short(image, end, out.len()) {
         return Answer::Refused(TOO_SHORT);
     }
     let entries = put_entries(out, &image[HEAD_SIZE..end]);
-    let all = put_epoch(out, entries, epoch);
-    Answer::Used(put_kraft(out, all, kraft))
+    let total = put_epoch(out, entries, image);
+    Answer::Used(put_kraft(out, total, image))
 }
 
 // An image's records into an output: the bytes written, which are a prefix of it.

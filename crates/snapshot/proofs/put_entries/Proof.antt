@@ -8,15 +8,15 @@ use Rattle.keys.proofs.Keys.{known-bytes}
 use Rattle.entries.proofs.Turns.{Stands, stands, ended, not-torn, turn-falls}
 use Rattle.image_entries.proofs.Turns.{forward, inside}
 use Rattle.records.proofs.Growing.{grown-length}
-use Rattle.snapshot.proofs.Passes.{here-entire, Wrote, write-start, wrote, entry-fits, write-turn}
+use Rattle.snapshot.proofs.Passes.{Wrote, write-start, wrote, behind, sum-before, entry-fits, write-turn}
 use Rattle.snapshot.proofs.put_entries.Statement.{statement}
 use Rattle.snapshot.proofs.put_entries.Tie as tie
 
 abbrev Inv-loop : tie.InvT-loop
-Inv-loop out₀ s c₀ n₀ out c n = Wrote s out₀ out (c .at) n
+Inv-loop out₀ s c₀ total₀ out c total = Wrote s out₀ out (c .at) total
 
 abbrev μ-loop : tie.MeasureT-loop
-μ-loop out₀ s c₀ n₀ out c n = length s - c .at
+μ-loop out₀ s c₀ total₀ out c total = length s - c .at
 
 loop-holds : tie.Need-loop-holds Inv-loop μ-loop
 loop-holds c =
@@ -41,47 +41,24 @@ entry c =
     let n = c .before .before in
     stands _ (bytes-in n) _ (n .before .loop .inv .ahead .entries) (n .next .ensures) (c .start .given .1)
 
-sub-put-returned : tie.Need-sub-put-returned Inv-loop μ-loop
-sub-put-returned c = forward (entry (c .before .before))
-
-part-put-returned-start : tie.Need-part-put-returned-start Inv-loop μ-loop
-part-put-returned-start c = let t = entry (c .before .before) in omega (arith, forward t, inside t)
-
-part-put-returned-end : tie.Need-part-put-returned-end Inv-loop μ-loop
-part-put-returned-end c = let t = entry (c .before .before) in omega (arith, forward t, inside t)
-
-put-returned-requires : tie.Need-put-returned-requires Inv-loop μ-loop
-put-returned-requires c κs =
-    let here = c .before .before .before in
-    (here-entire (entry here), entry-fits (c .before .before .before .before .before .before .loop .inv) (entry here))
-
-sub-returned-size : tie.Need-sub-returned-size Inv-loop μ-loop
-sub-returned-size c = forward (entry (c .before .before .before .before .before .before))
-
-part-returned-size-start : tie.Need-part-returned-size-start Inv-loop μ-loop
-part-returned-size-start c = let t = entry (c .before .before .before .before .before .before) in omega (arith, forward t, inside t)
-
-part-returned-size-end : tie.Need-part-returned-size-end Inv-loop μ-loop
-part-returned-size-end c = let t = entry (c .before .before .before .before .before .before) in omega (arith, forward t, inside t)
-
-returned-size-requires : tie.Need-returned-size-requires Inv-loop μ-loop
-returned-size-requires c κs = here-entire (entry (c .before .before .before .before .before .before .before))
-
-add-n : tie.Need-add-n Inv-loop μ-loop
-add-n c =
-    let here = c .before .before .before .before .before .before .before .before in
-    let at-loop = here .before .before .before in
-    omega (arith, entry-fits (at-loop .loop .inv) (entry here), c .returned-size .ensures, grown-length (at-loop .loop .inv .grows))
+place-entry-requires : tie.Need-place-entry-requires Inv-loop μ-loop
+place-entry-requires c κs =
+    let here = c .before .before in
+    let inv = here .before .before .before .loop .inv in (
+      (behind inv (entry here) (bytes-in (here .before .before)), sum-before inv (entry here) (bytes-in (here .before .before))),
+      entry-fits inv (entry here) (bytes-in (here .before .before)),
+    )
 
 loop-less : tie.Need-loop-less Inv-loop μ-loop
-loop-less c = turn-falls _ _ _ _ _ (entry (c .before .before .before .before .before .before .before .before))
+loop-less c = turn-falls _ _ _ _ _ (entry (c .before .before .before .before .before))
 
 loop-again : tie.Need-loop-again Inv-loop μ-loop
 loop-again c =
-    let at-put-returned = c .before .before .before .before in
-    let here = at-put-returned .before .before .before .before in
-    let at-loop = here .before .before .before in
-    write-turn (at-loop .loop .inv) (entry here) (at-put-returned .put-returned .ensures) (c .returned-size .ensures)
+    let at-place-entry = c .before .before in
+    let here = at-place-entry .before .before .before in
+    let inv = here .before .before .before .loop .inv in
+    let placed = at-place-entry .place-entry .ensures in
+    write-turn inv (entry here) (bytes-in (here .before .before)) (placed .0) (placed .1)
 
 enum-told : tie.Need-enum-told Inv-loop μ-loop
 enum-told c = search needs
@@ -115,15 +92,7 @@ put-entries-spec =
     loop-holds
     next-requires
     enum-known-start
-    sub-put-returned
-    part-put-returned-start
-    part-put-returned-end
-    put-returned-requires
-    sub-returned-size
-    part-returned-size-start
-    part-returned-size-end
-    returned-size-requires
-    add-n
+    place-entry-requires
     loop-less
     loop-again
     enum-told
