@@ -31,7 +31,8 @@ static inline uint32_t jeghatuf_value(uint64_t answer) { return (uint32_t)answer
 
 /* Records. */
 
-/* Reads the record at the start of the input. The bytes used. */
+/* Reads the record at the start of the input. The bytes used. Kind 26, a log
+ * offset, is read and written too. */
 uint64_t jeghatuf_read(const uint8_t *input, size_t input_len);
 
 /* Writes a record of a kind: the tags of its fields, the length of each, and
@@ -40,7 +41,7 @@ uint64_t jeghatuf_write(uint8_t kind, const uint8_t *tags, size_t tags_len, cons
                         size_t lengths_len, const uint8_t *values, size_t values_len, uint8_t *out,
                         size_t out_len);
 
-/* Images: buffers of 128 to 65,536 bytes. */
+/* Images: buffers of 144 to 65,536 bytes. */
 
 /* Makes a buffer a fresh image. The value is 0. */
 uint64_t jeghatuf_open(uint8_t *buffer, size_t buffer_len);
@@ -51,18 +52,23 @@ uint64_t jeghatuf_is_image(const uint8_t *buffer, size_t buffer_len);
 /* Whether the record at the start of the input may be applied. The value is 0. */
 uint64_t jeghatuf_validate(const uint8_t *image, size_t image_len, const uint8_t *input, size_t input_len);
 
-/* Applies the record at the start of the input. The value is 0. */
-uint64_t jeghatuf_apply(uint8_t *image, size_t image_len, const uint8_t *input, size_t input_len);
+/* Applies the record at the start of the input, whose log offset is an int64_t
+ * by its bits: above the image's, else 21. The image then has this offset. The
+ * value is 0. */
+uint64_t jeghatuf_apply(uint8_t *image, size_t image_len, uint64_t offset, const uint8_t *input,
+                        size_t input_len);
 
 /* Restarts. */
 
-/* Writes the image's records. The bytes written. */
+/* Writes the image's log offset, a record of kind 26, and its records. The bytes
+ * written. */
 uint64_t jeghatuf_snapshot(const uint8_t *image, size_t image_len, uint8_t *out, size_t out_len);
 
-/* Makes a buffer the image of the records of the input. The value is 0. Where a
- * record is refused, place[0] gets the byte that it begins at, and the buffer
- * becomes the image of the records before it. Where the buffer has no capacity
- * for an image (1), both stay as they were. */
+/* Makes a buffer the image of the records of the input, at the log offset that
+ * these start with. The value is 0. Where a record is refused, by 22 also where
+ * the log offset is missing at the start or stands later, place[0] gets the byte
+ * that it begins at, and the buffer becomes the image of the records before it.
+ * Where the buffer has no capacity for an image (1), both stay as they were. */
 uint64_t jeghatuf_restore(uint8_t *image, size_t image_len, const uint8_t *input, size_t input_len,
                           uint64_t *place, size_t place_len);
 
@@ -101,6 +107,10 @@ uint64_t jeghatuf_throttle(const uint8_t *image, size_t image_len, uint64_t node
 
 /* Puts the features epoch into value[0], an int64_t by its bits. The value is 0. */
 uint64_t jeghatuf_features_epoch(const uint8_t *image, size_t image_len, uint64_t *value, size_t value_len);
+
+/* Puts the log offset of the last record applied into value[0], an int64_t by its
+ * bits: -1 where there is none. The value is 0. */
+uint64_t jeghatuf_log_offset(const uint8_t *image, size_t image_len, uint64_t *value, size_t value_len);
 
 /* How many partitions have fewer nodes in their ISR than replicas that are not being added. */
 uint64_t jeghatuf_short_count(const uint8_t *image, size_t image_len);

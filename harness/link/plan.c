@@ -37,14 +37,15 @@ static size_t load(const char *path, uint8_t *buffer, size_t buffer_len) {
     return length;
 }
 
-/* Gives each record to Validate and, where that says 0, to Apply. */
+/* Gives each record to Validate and, where that says 0, to Apply. Its log offset
+ * is its number, from 0. */
 static void take(uint8_t *image, const uint8_t *records, size_t length) {
     unsigned count = 0, applied = 0;
     for (size_t at = 0, used; at < length; at += used) {
         used = value("Read", jeghatuf_read(records + at, length - at));
         uint64_t answer = jeghatuf_validate(image, CAPACITY, records + at, used);
         if (jeghatuf_refusal(answer) == 0) {
-            answer = jeghatuf_apply(image, CAPACITY, records + at, used);
+            answer = jeghatuf_apply(image, CAPACITY, count, records + at, used);
         }
         if (jeghatuf_refusal(answer) != 0) {
             printf("byte %zu: refused, %" PRIu32 "\n", at, jeghatuf_refusal(answer));
@@ -62,8 +63,16 @@ static const char *exists(const uint8_t *image, uint32_t number) {
     return value("partition", answer) > 0 ? "yes" : "no";
 }
 
+/* The log offset of the last record applied. */
+static int64_t log_offset(const uint8_t *image) {
+    uint64_t offset[1] = {0};
+    value("log offset", jeghatuf_log_offset(image, CAPACITY, offset, 1));
+    return (int64_t)offset[0];
+}
+
 static void say(const uint8_t *image, const char *when) {
-    printf("%s, %s: partition 0 %s, partition 1 %s\n", (const char *)PLAN, when, exists(image, 0), exists(image, 1));
+    printf("%s, %s: partition 0 %s, partition 1 %s; log offset %" PRId64 "\n", (const char *)PLAN, when,
+           exists(image, 0), exists(image, 1), log_offset(image));
 }
 
 int main(int argc, char **argv) {

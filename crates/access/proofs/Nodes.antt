@@ -11,8 +11,8 @@ use Rattle.model.specs.Choice.{given}
 use Rattle.model.specs.Kind.{kindOf, kinds}
 use Rattle.model.specs.Shape.{Row, recordOf, fixed, required, rowsOf, rowAt}
 use Rattle.model.specs.declared.Kind.{Kind}
-use Rattle.model.specs.declared.Kind.the-variants.{Topic, Partition, BrokerRegistration, DeleteTopic, TopicConfig, BrokerConfig, ClientQuota, ProducerIds, UnregisterBroker, KRaftVersion, FeatureLevel, ClientMetricsConfig, FeaturesEpoch}
-use Rattle.model.specs.declared.Kind.the-variants.{PartitionDirAssignment, PartitionOffsetAdvance, GroupConfig, ControllerRegistration, TopicFreeze, BreakGlassProposal, DeleteBreakGlassProposal, PartitionElr, PartitionRecovery, PartitionUpdate, BrokerRegistrationChange, UnregisterController}
+use Rattle.model.specs.declared.Kind.the-variants.{Topic, Partition, BrokerRegistration, DeleteTopic, TopicConfig, BrokerConfig, ClientQuota, ProducerIds, UnregisterBroker, KRaftVersion, FeatureLevel, ClientMetricsConfig, FeaturesEpoch, PartitionDirAssignment}
+use Rattle.model.specs.declared.Kind.the-variants.{PartitionOffsetAdvance, GroupConfig, ControllerRegistration, TopicFreeze, BreakGlassProposal, DeleteBreakGlassProposal, PartitionElr, PartitionRecovery, PartitionUpdate, BrokerRegistrationChange, UnregisterController, LogOffset}
 use Rattle.laws.specs.Lists.{getElem?-past}
 use Rattle.access.specs.Access.{nodeTag, kindTag}
 
@@ -23,14 +23,14 @@ given-map (k ∷ l) (suc n) = given-map l n
 
 -- the tags as the code has them
 abbrev pub tags : List ℕ
-tags = 0 ∷ 0 ∷ 3 ∷ 1 ∷ 0 ∷ 0 ∷ 1 ∷ 0 ∷ 1 ∷ 1 ∷ 0 ∷ 0 ∷ 0 ∷ 0 ∷ 3 ∷ 0 ∷ 0 ∷ 1 ∷ 0 ∷ 0 ∷ 0 ∷ 0 ∷ 0 ∷ 0 ∷ 1 ∷ 1 ∷ []
+tags = 0 ∷ 0 ∷ 3 ∷ 1 ∷ 0 ∷ 0 ∷ 1 ∷ 0 ∷ 1 ∷ 1 ∷ 0 ∷ 0 ∷ 0 ∷ 0 ∷ 3 ∷ 0 ∷ 0 ∷ 1 ∷ 0 ∷ 0 ∷ 0 ∷ 0 ∷ 0 ∷ 0 ∷ 1 ∷ 1 ∷ 0 ∷ []
 
 pub tags-are : (n : ℕ) → getD tags n 0 ≡ kindTag n
 unfolding kindTag kindOf kinds nodeTag
 tags-are zero = refl
 tags-are (suc n) = sym (given-map kinds n)
 
-pub tag-past : (n : ℕ) → 26 ≤ n → 0 ≡ kindTag n
+pub tag-past : (n : ℕ) → 27 ≤ n → 0 ≡ kindTag n
 unfolding kindTag kindOf kinds
 tag-past zero h = refl
 tag-past (suc n) h = rw (getElem?-past kinds n (omega arith))
@@ -63,3 +63,4 @@ node-row PartitionRecovery = refl
 node-row PartitionUpdate = refl
 node-row BrokerRegistrationChange = refl
 node-row UnregisterController = refl
+node-row LogOffset = refl

@@ -12,8 +12,8 @@ use Rattle.model.specs.Number.{Bytes, number, span, isNegative}
 use Rattle.model.specs.Run.{runOf, field}
 use Rattle.model.specs.Kind.{kindNumber, kindOf}
 use Rattle.model.specs.declared.Kind.{Kind}
-use Rattle.model.specs.declared.Kind.the-variants.{Topic, Partition, BrokerRegistration, DeleteTopic, TopicConfig, BrokerConfig, ClientQuota, ProducerIds, UnregisterBroker, KRaftVersion, FeatureLevel, ClientMetricsConfig, FeaturesEpoch}
-use Rattle.model.specs.declared.Kind.the-variants.{PartitionDirAssignment, PartitionOffsetAdvance, GroupConfig, ControllerRegistration, TopicFreeze, BreakGlassProposal, DeleteBreakGlassProposal, PartitionElr, PartitionRecovery, PartitionUpdate, BrokerRegistrationChange, UnregisterController}
+use Rattle.model.specs.declared.Kind.the-variants.{Topic, Partition, BrokerRegistration, DeleteTopic, TopicConfig, BrokerConfig, ClientQuota, ProducerIds, UnregisterBroker, KRaftVersion, FeatureLevel, ClientMetricsConfig, FeaturesEpoch, PartitionDirAssignment}
+use Rattle.model.specs.declared.Kind.the-variants.{PartitionOffsetAdvance, GroupConfig, ControllerRegistration, TopicFreeze, BreakGlassProposal, DeleteBreakGlassProposal, PartitionElr, PartitionRecovery, PartitionUpdate, BrokerRegistrationChange, UnregisterController, LogOffset}
 use Rattle.quota.specs.Quota.{quotaOf}
 use Rattle.access.specs.declared.Number.{Number}
 use Rattle.access.specs.declared.Number.the-variants.{Is, Missing}
@@ -78,6 +78,7 @@ nodeTag PartitionRecovery = 0
 nodeTag PartitionUpdate = 0
 nodeTag BrokerRegistrationChange = 1
 nodeTag UnregisterController = 1
+nodeTag LogOffset = 0
 
 unfoldable pub kindTag : ℕ → ℕ
 kindTag n = given (kindOf n) 0 nodeTag

@@ -86,7 +86,7 @@ pub enum Node {
 }
 
 // By kind, the tag of the field that is a node; 0 where a kind has none.
-const NODE_TAGS: [u8; 26] = [
+const NODE_TAGS: [u8; 27] = [
     0, // no kind
     0, // 1 Topic
     3, // 2 Partition, leader
@@ -113,12 +113,13 @@ const NODE_TAGS: [u8; 26] = [
     0, // 23 PartitionUpdate
     1, // 24 BrokerRegistrationChange, node_id
     1, // 25 UnregisterController, node_id
+    0, // 26 LogOffset
 ];
 
 fn node_tag(kind: u8) -> u8
     ensures { λ r. ⌜ r ≡ kindTag kind ⌝ }
 {
-    if 26 <= kind {
+    if 27 <= kind {
         return 0;
     }
     NODE_TAGS[kind as usize]

@@ -20,7 +20,7 @@ ghost use Rattle.apply_work.specs.Work.{Good, heldIn, mostRecord, Made};
 ghost use Rattle.apply_offsets.specs.Advances.{sumAfter, IsSum, offsetRec};
 
 // Zero's place among signed numbers of eight bytes.
-const ZERO: u64 = 0x8000_0000_0000_0000;
+const ZERO: u64 = wire::HALF;
 
 // A sum of two signed numbers: its place among them, and whether it leaves them. Below them the place is the lowest; above them it starts again
 // from there.
@@ -93,23 +93,13 @@ pub fn overflows(s: &[u8], rec: &[u8]) -> bool
     sum.leaves
 }
 
-// The number whose place is given, and the place of a number: the sign bit is turned.
-fn turned(n: u64) -> u64
-    ensures { λ r. ⌜ r ≡ place 8 n ⌝ }
-{
-    if n < ZERO {
-        return n + ZERO;
-    }
-    n - ZERO
-}
-
 // Builds a record with the offset of a place in a lent buffer. Its length.
 fn draft(b: &mut [u8], rec: &[u8], offset: u64) -> usize
     requires { ⌜ IsRecord (now rec) × (recordIn (now rec) .kind ≡ PartitionOffsetAdvance) × (draftRoom ≤ length (now b)) ⌝ }
     ensures { λ r. ⌜ (take r (now (b .exit)) ≡ recordBytes (offsetRec (recordIn (now (rec .entry)) .run) offset)) × (r ≤ draftRoom) ⌝ }
 {
     let mut v = [0; 8];
-    wire::put(&mut v, 0, 8, turned(offset));
+    wire::put(&mut v, 0, 8, wire::place(offset));
     let n = copy_in(b, rec);
     set_field(b, n, 3, &v)
 }

@@ -15,8 +15,8 @@ use Rattle.model.specs.Move.{Move, putM, dropM, directoriesM, setOrDrop, joinOr
 use Rattle.model.specs.Move.{runAt, brokerAt, atEpoch, orDone, storedNext, isAbove, changedBroker, replicas, directories, nodeCount, slotOf}
 use Rattle.model.specs.Move.{filled, assigned, directoryMoves, sortedQuota, onFixed, move, moves, plan, moved}
 use Rattle.model.specs.declared.Kind.{Kind}
-use Rattle.model.specs.declared.Kind.the-variants.{Topic, Partition, BrokerRegistration, DeleteTopic, TopicConfig, BrokerConfig, ClientQuota, ProducerIds, UnregisterBroker, KRaftVersion, FeatureLevel, ClientMetricsConfig, FeaturesEpoch}
-use Rattle.model.specs.declared.Kind.the-variants.{PartitionDirAssignment, PartitionOffsetAdvance, GroupConfig, ControllerRegistration, TopicFreeze, BreakGlassProposal, DeleteBreakGlassProposal, PartitionElr, PartitionRecovery, PartitionUpdate, BrokerRegistrationChange, UnregisterController}
+use Rattle.model.specs.declared.Kind.the-variants.{Topic, Partition, BrokerRegistration, DeleteTopic, TopicConfig, BrokerConfig, ClientQuota, ProducerIds, UnregisterBroker, KRaftVersion, FeatureLevel, ClientMetricsConfig, FeaturesEpoch, PartitionDirAssignment}
+use Rattle.model.specs.declared.Kind.the-variants.{PartitionOffsetAdvance, GroupConfig, ControllerRegistration, TopicFreeze, BreakGlassProposal, DeleteBreakGlassProposal, PartitionElr, PartitionRecovery, PartitionUpdate, BrokerRegistrationChange, UnregisterController, LogOffset}
 use Rattle.laws.specs.Lists.{All, all-append}
 use Rattle.apply_plan.specs.Fixed.{epochAfter, kraftAfter}
 
@@ -89,7 +89,7 @@ update-still f = (
 -- 3. By kind
 
 abbrev After : Rec → Contents → Fixed
-After r c = record { epoch = epochAfter r (c .fixed .epoch); kraft = kraftAfter r (c .fixed .kraft) }
+After r c = record { epoch = epochAfter r (c .fixed .epoch); kraft = kraftAfter r (c .fixed .kraft); offset = c .fixed .offset }
 
 moved-kind : (k : Kind) (f : Run) (c : Contents) → moves (plan k f (c .real)) c .fixed ≡ After (rec k f) c
 unfolding plan moves move onFixed kindNumber epochAfter kraftAfter
@@ -127,8 +127,9 @@ moved-kind BrokerRegistrationChange f c =
     all-still (plan BrokerRegistrationChange f (c .real)) c
     (when-still (atEpoch (value 2 f) o) (putM (rec BrokerRegistration (changedBroker f (orDone o))) ∷ []) (λ x. refl, tt))
 moved-kind UnregisterController f c = refl
+moved-kind LogOffset f c = refl
 
 pub moved-fixed : (r : Rec) (c : Contents)
-    → moved r c .fixed ≡ record { epoch = epochAfter r (c .fixed .epoch); kraft = kraftAfter r (c .fixed .kraft) }
+    → moved r c .fixed ≡ record { epoch = epochAfter r (c .fixed .epoch); kraft = kraftAfter r (c .fixed .kraft); offset = c .fixed .offset }
 unfolding moved
 moved-fixed r c = moved-kind (r .kind) (r .run) c

@@ -32,12 +32,12 @@ Calm n = (eqb n 10 ≡ false) × (eqb n 11 ≡ false) × (eqb n 13 ≡ false) ×
 -- the fixed parts that the moves make
 module _ (s : Bytes) (i : IsLogged s) (w : Bytes) (state : State) where
   fixed-made : {epoch kraft : ℕ} → epoch ≡ epochAfter (loggedIn s) (state .epoch) → kraft ≡ kraftAfter (loggedIn s) (state .kraft)
-      → _≡_ {A = Fixed} (record { epoch = epoch; kraft = kraft }) (moved (loggedIn s) (stateIn w state) .fixed)
-  fixed-made ee ek = ap₂ (λ x y. record { epoch = x; kraft = y }) ee ek ∙ sym (moved-fixed (loggedIn s) (stateIn w state))
+      → _≡_ {A = Fixed} (record { epoch = epoch; kraft = kraft; offset = state .offset }) (moved (loggedIn s) (stateIn w state) .fixed)
+  fixed-made ee ek = ap₂ (λ x y. record { epoch = x; kraft = y; offset = state .offset }) ee ek ∙ sym (moved-fixed (loggedIn s) (stateIn w state))
 
 module _ (s : Bytes) (i : IsLogged s) (w v : Bytes) (state : State) where
   module _ {bounds : Bounds} (made : Made (plan (loggedIn s .kind) (loggedIn s .run) (heldIn w (state .bounds))) w (state .bounds) v bounds) {r : Tried} where
-    pub planned-bounds : {n : ℕ} → kindIn s ≡ n → Calm n → r ≡ Moved (record { bounds = bounds; epoch = state .epoch; kraft = state .kraft })
+    pub planned-bounds : {n : ℕ} → kindIn s ≡ n → Calm n → r ≡ Moved (record { bounds = bounds; epoch = state .epoch; kraft = state .kraft; offset = state .offset })
         → Planned (loggedIn s) w state v r
     planned-bounds {n} is calm e =
         let apart : (m : ℕ) → eqb n m ≡ false → eqb (kindIn s) m ≡ false = λ m q. rw is q in
@@ -47,7 +47,7 @@ module _ (s : Bytes) (i : IsLogged s) (w v : Bytes) (state : State) where
           fixed-made s i w state (epoch-kept s i (state .epoch) (apart 11 (calm .1)) (apart 13 (calm .2))) (kraft-kept s i (state .kraft) (apart 10 (calm .0))),
         )
 
-    pub planned-level : kindIn s ≡ 11 → r ≡ Moved (record { bounds = bounds; epoch = bumped (state .epoch); kraft = state .kraft })
+    pub planned-level : kindIn s ≡ 11 → r ≡ Moved (record { bounds = bounds; epoch = bumped (state .epoch); kraft = state .kraft; offset = state .offset })
         → Planned (loggedIn s) w state v r
     planned-level is e =
         subst (Planned (loggedIn s) w state v) (sym e) (
@@ -58,7 +58,7 @@ module _ (s : Bytes) (i : IsLogged s) (w v : Bytes) (state : State) where
 
 -- records that move no entry
 module _ (s : Bytes) (i : IsLogged s) (w : Bytes) (state : State) (good : Good w (state .bounds)) {r : Tried} where
-  pub planned-epoch : kindIn s ≡ 13 → r ≡ Moved (record { bounds = state .bounds; epoch = number (value 1 (runIn s)); kraft = state .kraft })
+  pub planned-epoch : kindIn s ≡ 13 → r ≡ Moved (record { bounds = state .bounds; epoch = number (value 1 (runIn s)); kraft = state .kraft; offset = state .offset })
       → Planned (loggedIn s) w state w r
   planned-epoch is e =
       subst (Planned (loggedIn s) w state w) (sym e) (
@@ -67,7 +67,7 @@ module _ (s : Bytes) (i : IsLogged s) (w : Bytes) (state : State) (good : Good w
         fixed-made s i w state (epoch-set s i (state .epoch) is refl) (kraft-kept s i (state .kraft) (rw is refl)),
       )
 
-  pub planned-kraft : kindIn s ≡ 10 → r ≡ Moved (record { bounds = state .bounds; epoch = state .epoch; kraft = number (value 1 (runIn s)) })
+  pub planned-kraft : kindIn s ≡ 10 → r ≡ Moved (record { bounds = state .bounds; epoch = state .epoch; kraft = number (value 1 (runIn s)); offset = state .offset })
       → Planned (loggedIn s) w state w r
   planned-kraft is e =
       subst (Planned (loggedIn s) w state w) (sym e) (

@@ -26,49 +26,53 @@ const SET_TO: usize = 1;
 
 // Entries that were moved, and the fixed parts as they were.
 pub fn with_bounds(state: State, bounds: Bounds) -> Tried
-    ensures { λ r. ⌜ r ≡ Moved (record { bounds = bounds; epoch = state .epoch; kraft = state .kraft }) ⌝ }
+    ensures { λ r. ⌜ r ≡ Moved (record { bounds = bounds; epoch = state .epoch; kraft = state .kraft; offset = state .offset }) ⌝ }
 {
     Tried::Moved(State {
         bounds,
         epoch: state.epoch,
         kraft: state.kraft,
+        offset: state.offset,
     })
 }
 
 // The same, and the epoch after a feature level.
 pub fn with_level(state: State, bounds: Bounds) -> Tried
-    ensures { λ r. ⌜ r ≡ Moved (record { bounds = bounds; epoch = bumped (state .epoch); kraft = state .kraft }) ⌝ }
+    ensures { λ r. ⌜ r ≡ Moved (record { bounds = bounds; epoch = bumped (state .epoch); kraft = state .kraft; offset = state .offset }) ⌝ }
 {
     Tried::Moved(State {
         bounds,
         epoch: bump(state.epoch),
         kraft: state.kraft,
+        offset: state.offset,
     })
 }
 
 // The epoch that a record sets.
 pub fn with_epoch(state: State, rec: &[u8]) -> Tried
     requires { ⌜ (3 ≤ length (now rec)) × (length (value 1 (runIn (now rec))) ≡ 8) ⌝ }
-    ensures { λ r. ⌜ r ≡ Moved (record { bounds = state .bounds; epoch = number (value 1 (runIn (now (rec .entry)))); kraft = state .kraft }) ⌝ }
+    ensures { λ r. ⌜ r ≡ Moved (record { bounds = state .bounds; epoch = number (value 1 (runIn (now (rec .entry)))); kraft = state .kraft; offset = state .offset }) ⌝ }
 {
     let bounds = state.bounds;
     Tried::Moved(State {
         bounds,
         epoch: number_at(rec, SET_TO, 8),
         kraft: state.kraft,
+        offset: state.offset,
     })
 }
 
 // The kraft version that a record sets.
 pub fn with_kraft(state: State, rec: &[u8]) -> Tried
     requires { ⌜ (3 ≤ length (now rec)) × (length (value 1 (runIn (now rec))) ≡ 2) ⌝ }
-    ensures { λ r. ⌜ r ≡ Moved (record { bounds = state .bounds; epoch = state .epoch; kraft = number (value 1 (runIn (now (rec .entry)))) }) ⌝ }
+    ensures { λ r. ⌜ r ≡ Moved (record { bounds = state .bounds; epoch = state .epoch; kraft = number (value 1 (runIn (now (rec .entry)))); offset = state .offset }) ⌝ }
 {
     let bounds = state.bounds;
     Tried::Moved(State {
         bounds,
         epoch: state.epoch,
         kraft: number_at(rec, SET_TO, 2),
+        offset: state.offset,
     })
 }
 

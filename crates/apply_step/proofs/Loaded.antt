@@ -14,14 +14,14 @@ use Rattle.apply_work.specs.Work.{groupsIn, Good, heldIn, stateIn}
 use Rattle.apply_work.specs.declared.Bounds.{Bounds}
 use Rattle.apply_step.specs.Step.{Holding}
 
-module _ (image : Bytes) (are : AreBytes image) (is : isImage image ≡ true) (w : Bytes) (bounds : Bounds) (epoch kraft : ℕ)
+module _ (image : Bytes) (are : AreBytes image) (is : isImage image ≡ true) (w : Bytes) (bounds : Bounds) (epoch kraft offset : ℕ)
     (load : Good w bounds × (heldIn w bounds ≡ contentsOf image .real) × (groupsIn w bounds ≡ contentsOf image .empties) × (bounds .used + headSize ≡ usedIn image))
-    (ee : epoch ≡ fixedIn image .epoch) (ek : kraft ≡ fixedIn image .kraft) where
-  pub state-loaded : stateIn w (record { bounds = bounds; epoch = epoch; kraft = kraft }) ≡ contentsOf image
+    (ee : epoch ≡ fixedIn image .epoch) (ek : kraft ≡ fixedIn image .kraft) (eo : offset ≡ fixedIn image .offset) where
+  pub state-loaded : stateIn w (record { bounds = bounds; epoch = epoch; kraft = kraft; offset = offset }) ≡ contentsOf image
   unfolding contentsOf
-  state-loaded = rw (load .1, load .2, ee, ek) refl
+  state-loaded = rw (load .1, load .2, ee, ek, eo) refl
 
-  pub holding-loaded : Holding w (record { bounds = bounds; epoch = epoch; kraft = kraft }) (length image)
+  pub holding-loaded : Holding w (record { bounds = bounds; epoch = epoch; kraft = kraft; offset = offset }) (length image)
   holding-loaded =
       let fits = image-fits image are is in
       record {

@@ -6,6 +6,7 @@ use apply_work::Tried;
 use apply_work::load;
 use header::epoch_in;
 use header::kraft_in;
+use header::offset_in;
 use image::weight_of;
 use model::refusals::FULL;
 ghost use mathlib.Core.Path.{_≡_};
@@ -63,6 +64,7 @@ pub fn try_in(w: &mut [u8], a: &mut [u8], b: &mut [u8], image: &[u8], rec: &[u8]
         bounds,
         epoch: epoch_in(image),
         kraft: kraft_in(image),
+        offset: offset_in(image),
     };
     step(w, a, b, state, image.len(), rec)
 }

@@ -38,7 +38,7 @@ contentsIn w bounds f = record { real = heldIn w bounds; empties = groupsIn w bo
 
 -- the same with the fixed parts of a state
 abbrev pub fixedParts : State → Fixed
-fixedParts s = record { epoch = s .epoch; kraft = s .kraft }
+fixedParts s = record { epoch = s .epoch; kraft = s .kraft; offset = s .offset }
 
 abbrev pub stateIn : Bytes → State → Contents
 stateIn w s = contentsIn w (s .bounds) (fixedParts s)

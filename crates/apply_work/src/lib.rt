@@ -32,6 +32,7 @@ pub struct State {
     pub bounds: Bounds,
     pub epoch: u64,
     pub kraft: u64,
+    pub offset: u64,
 }
 
 // A record's refusal, or the state after its moves.

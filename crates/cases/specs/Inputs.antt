@@ -75,6 +75,10 @@ unset node = encode (rec BrokerConfig (item 1 (bytes 8 node) (item 2 p done)))
 abbrev pub epochIs : ℕ → Bytes
 epochIs e = encode (rec FeaturesEpoch (item 1 (bytes 8 e) done))
 
+-- the log offset that a snapshot starts with: kind 26, tag 1
+abbrev pub offsetIs : ℕ → Bytes
+offsetIs n = 0x1a ∷ 0 ∷ 11 ∷ 1 ∷ 0 ∷ 8 ∷ bytes 8 n
+
 -- 2. Buffers
 
 -- a buffer that held something else, and a fresh image in it

@@ -3,12 +3,13 @@
 use mathlib.Core.Path.{_≡_, refl, sym, _∙_, ap}
 use mathlib.Core.Bool.{Bool, true, false, _||_}
 use mathlib.Core.List.{List, [], _∷_, _++_}
-use Prim.Native.Nat.{ℕ, zero, suc, _-_}
+use Prim.Native.Nat.{ℕ, zero, suc, _-_, _<_}
 use lib.Dec.{T, ltb, eqb, ltb→lt}
 use lib.ListN.{length, replicate}
 use mir.Facts.{and-yes}
 use borrow.Author.Tests.{eqb-true, eqb-false}
 use Rattle.model.specs.Number.{Bytes, AreBytes, number, bytes, span}
+use Rattle.model.specs.Number as Number
 use Rattle.model.specs.Choice as Choice
 use Rattle.model.specs.Choice.{every, given}
 use Rattle.model.specs.Text as Text
@@ -70,7 +71,7 @@ abbrev table : Premise → Example
 -- two topics of one id: the id names "p", which was given last, and after a restart "r", the greater name
 table ids = record {
   capacity = 300;
-  steps = give (topicNamed r 0) ∷ give (topicNamed p 0) ∷ restart 300 ∷ askTopicId (bytes 16 5) output ∷ [];
+  steps = give 0 (topicNamed r 0) ∷ give 1 (topicNamed p 0) ∷ restart 300 ∷ askTopicId (bytes 16 5) output ∷ [];
   field = 1;
   with-cuts = 0x72;
   without = 0x70;
@@ -79,7 +80,7 @@ table ids = record {
 table factors = record {
   capacity = 400;
   steps =
-      give (topicNamed p 0) ∷ give (partition p 1 one []) ∷ give (partition p 0 two []) ∷ restart 400 ∷ askTopic p output ∷ [];
+      give 0 (topicNamed p 0) ∷ give 1 (partition p 1 one []) ∷ give 2 (partition p 0 two []) ∷ restart 400 ∷ askTopic p output ∷ [];
   field = 4;
   with-cuts = 1;
   without = 2;
@@ -87,15 +88,15 @@ table factors = record {
 -- the epoch -5: after a restart it is the number of levels minus 1, which is -1
 table epochs = record {
   capacity = 200;
-  steps = give (epochIs (span 8 - 5)) ∷ restart 200 ∷ askEpoch ∷ [];
+  steps = give 0 (epochIs (span 8 - 5)) ∷ restart 200 ∷ askEpoch ∷ [];
   field = 0;
   with-cuts = span 8 - 1;
   without = span 8 - 5;
 }
 -- an empty group of 17 bytes, which a restart drops: only then is there room for 12 bytes more
 table room = record {
-  capacity = 150;
-  steps = give (unset 1) ∷ restart 150 ∷ give (level 1) ∷ [];
+  capacity = 166;
+  steps = give 0 (unset 1) ∷ restart 166 ∷ give 1 (level 1) ∷ [];
   field = 0;
   with-cuts = 0;
   without = 18;
@@ -129,8 +130,12 @@ are-bytes : (s : Bytes) → T (every (λ x. ltb x 256) s) → AreBytes s
 are-bytes [] h = tt
 are-bytes (x ∷ s) h = let b = and-yes (ltb x 256) (every (λ y. ltb y 256) s) h in (ltb→lt x 256 (b .0), are-bytes s (b .1))
 
+-- what a record step is given: bytes, and an offset of eight bytes
+record-given : (s : Bytes) (n : ℕ) → T (every (λ x. ltb x 256) s) → T (ltb n (span 8)) → AreBytes s × (n < span 8)
+record-given s n h wide = (are-bytes s h, ltb→lt n (span 8) wide)
+
 computes : (p : Premise) → Computes p (table p)
-unfolding returned Text.wellFormed Text.following Text.textAfter Run.parse Run.bytesOf Run.field Run.dropField Run.setField
+unfolding returned Number.isOffset Text.wellFormed Text.following Text.textAfter Run.parse Run.bytesOf Run.field Run.dropField Run.setField
     Order.compareBytes Order.compareKeys Order.sameBytes Kind.kindOf Kind.kindNumber Nodes.nodesFrom Nodes.isAmong Nodes.noRepeats Shape.rowsOf Shape.anyRequired Shape.mayFollow
     Shape.leafFault Shape.runFault Shape.valueFault Shape.shapeOf Reply.emitBytes Record.recordBytes Record.read Key.rank Key.subject
     Key.keyOf Key.keyRank Key.keyName Map.put Map.get Map.remove Map.any Map.count Map.ascending Contents.returned Contents.kept
@@ -139,13 +144,13 @@ unfolding returned Text.wellFormed Text.following Text.textAfter Run.parse Run.b
     Image.isCapacity Image.mark Image.header Image.entryBytes Image.imageOf Image.entryOf Image.flagReads Image.realOf Image.emptiesOf
     Image.contentsOf Image.headerOk Image.entriesOk Image.isImage Image.openOf Move.clearNamed Move.clearOldNamed Move.countOf Move.countPartition
     Move.onReal Move.onEmpties Move.onFixed Move.move Move.moves Move.plan Move.moved Move.overflows Validate.lawfulName Validate.topicExists Validate.alone
-    Validate.against Validate.judge Validate.validateOf Apply.apply Apply.applyOf Snapshot.emit Snapshot.epochRecords
-    Snapshot.kraftRecords Snapshot.snapshot Snapshot.snapshotOf Snapshot.replay Snapshot.restoreOf Lookup.topicByName Lookup.namedBy
+    Validate.against Validate.judge Validate.validateOf Apply.apply Apply.applyAt Apply.applyOf Snapshot.emit Snapshot.epochRecords
+    Snapshot.kraftRecords Snapshot.body Snapshot.snapshot Snapshot.snapshotOf Snapshot.replay Snapshot.replayRun Snapshot.restoreOf Lookup.topicByName Lookup.namedBy
     Lookup.topicById Lookup.epochOf History.run History.isCut History.uncut History.answer History.after History.cutImage History.hasId
-    History.idsApart History.factorHolds History.epochMild History.roomLasts History.ofGiven History.meetsAt History.meets
+    History.idsApart History.factorHolds History.epochMild History.roomLasts History.onGiven History.meetsAt History.meets
 computes ids = record {
   capacity = refl;
-  given = (are-bytes (topicNamed r 0) tt, (are-bytes (topicNamed p 0) tt, (refl, (tt, tt))));
+  given = (record-given (topicNamed r 0) 0 tt tt, (record-given (topicNamed p 0) 1 tt tt, (refl, (tt, tt))));
   others = each _ refl refl refl refl;
   cut-shows = refl;
   uncut-shows = refl;
@@ -153,7 +158,7 @@ computes ids = record {
 }
 computes factors = record {
   capacity = refl;
-  given = (are-bytes (topicNamed p 0) tt, (are-bytes (partition p 1 one []) tt, (are-bytes (partition p 0 two []) tt, (refl, (tt, tt)))));
+  given = (record-given (topicNamed p 0) 0 tt tt, (record-given (partition p 1 one []) 1 tt tt, (record-given (partition p 0 two []) 2 tt tt, (refl, (tt, tt)))));
   others = each _ refl refl refl refl;
   cut-shows = refl;
   uncut-shows = refl;
@@ -161,7 +166,7 @@ computes factors = record {
 }
 computes epochs = record {
   capacity = refl;
-  given = (are-bytes (epochIs (span 8 - 5)) tt, (refl, (tt, tt)));
+  given = (record-given (epochIs (span 8 - 5)) 0 tt tt, (refl, (tt, tt)));
   others = each _ refl refl refl refl;
   cut-shows = refl;
   uncut-shows = refl;
@@ -169,7 +174,7 @@ computes epochs = record {
 }
 computes room = record {
   capacity = refl;
-  given = (are-bytes (unset 1) tt, (refl, (are-bytes (level 1) tt, tt)));
+  given = (record-given (unset 1) 0 tt tt, (refl, (record-given (level 1) 1 tt tt, tt)));
   others = each _ refl refl refl refl;
   cut-shows = refl;
   uncut-shows = refl;

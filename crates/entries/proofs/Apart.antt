@@ -10,8 +10,8 @@ use Rattle.model.specs.Run.{Run, value}
 use Rattle.model.specs.Key.{rank, subject, keyOf, keyRank, keyName, topicOf}
 use Rattle.model.specs.Move.{apartFrom}
 use Rattle.model.specs.declared.Kind.{Kind}
-use Rattle.model.specs.declared.Kind.the-variants.{Topic, Partition, BrokerRegistration, DeleteTopic, TopicConfig, BrokerConfig, ClientQuota, ProducerIds, UnregisterBroker, KRaftVersion, FeatureLevel, ClientMetricsConfig, FeaturesEpoch}
-use Rattle.model.specs.declared.Kind.the-variants.{PartitionDirAssignment, PartitionOffsetAdvance, GroupConfig, ControllerRegistration, TopicFreeze, BreakGlassProposal, DeleteBreakGlassProposal, PartitionElr, PartitionRecovery, PartitionUpdate, BrokerRegistrationChange, UnregisterController}
+use Rattle.model.specs.declared.Kind.the-variants.{Topic, Partition, BrokerRegistration, DeleteTopic, TopicConfig, BrokerConfig, ClientQuota, ProducerIds, UnregisterBroker, KRaftVersion, FeatureLevel, ClientMetricsConfig, FeaturesEpoch, PartitionDirAssignment}
+use Rattle.model.specs.declared.Kind.the-variants.{PartitionOffsetAdvance, GroupConfig, ControllerRegistration, TopicFreeze, BreakGlassProposal, DeleteBreakGlassProposal, PartitionElr, PartitionRecovery, PartitionUpdate, BrokerRegistrationChange, UnregisterController, LogOffset}
 use Rattle.keys.specs.Keys.{kindIn, runIn, rankOf, keyIn, Keyed}
 
 -- 1. By kind
@@ -43,6 +43,7 @@ name-of DeleteBreakGlassProposal r low high = absurd (omega arith)
 name-of PartitionUpdate r low high = absurd (omega arith)
 name-of BrokerRegistrationChange r low high = absurd (omega arith)
 name-of UnregisterController r low high = absurd (omega arith)
+name-of LogOffset r low high = absurd (omega arith)
 
 module _ (name : Bytes) (k : Kind) (r : Run) where
   low-apart : rank k < 4 → true ≡ apartFrom name (keyOf k r)

@@ -11,17 +11,19 @@ use Rattle.model.specs.Number.{Bytes, AreBytes}
 use Rattle.model.specs.Run.{done, runOf, bytesOf, value}
 use Rattle.model.specs.Kind.{kindNumber}
 use Rattle.model.specs.Shape.{text, Row, rowsOf, rowAt, isRequired, logged, shapeOf, fault}
-use Rattle.model.specs.Record.{Rec, rec, recordBytes, got, read, readOf, onGot}
+use Rattle.model.specs.Record.{Rec, rec, recordBytes, got, read, onGot}
 use Rattle.model.specs.Reply.{accepted}
 use Rattle.model.specs.declared.Kind.{Kind}
 use Rattle.model.specs.declared.Kind.the-variants.{Topic, PartitionUpdate}
 use Rattle.laws_records.specs.Runs.{run-bytes}
-use Rattle.laws_records.specs.Kinds.{number-injective, number-range}
+use Rattle.laws_records.specs.Kinds.{number-injective}
 use Rattle.laws_records.specs.Records.{length-record, read-record, record-read, read-later}
 use Rattle.laws_records.specs.Forms.{ValueFits, leaf-fits}
 use Rattle.laws_records.specs.Passes.{value-passes}
-use Rattle.laws_records.specs.Faults.{fault-value, fault-whole, fault-short}
+use Rattle.laws_records.specs.Faults.{fault-value, fault-known, fault-whole, fault-short}
 use Rattle.keys.specs.Keys.{kindIn, runIn}
+use Rattle.entries.proofs.Records.{known-range}
+use Rattle.records.specs.Answers.{gotReply}
 use Rattle.records.proofs.Replies.{used-got}
 use Rattle.find.specs.Logged.{IsLogged, loggedIn, TopicFields}
 
@@ -59,7 +61,9 @@ module _ (s : Bytes) (i : IsLogged s) where
   -- 2. A number that no kind has
 
   kind-range : (0 < kindIn s) × (kindIn s ≤ 25)
-  kind-range = let r = number-range (loggedIn s .kind) in (omega (arith, kind-in), omega (arith, kind-in))
+  kind-range =
+      let r = known-range (loggedIn s .kind) (fault-known logged (loggedIn s .kind) (runIn s) passes) in
+      (omega (arith, kind-in), omega (arith, kind-in))
 
   pub kind-zero : {A : Type 0} → kindIn s ≡ 0 → A
   kind-zero h = absurd (omega (arith, kind-range))
@@ -93,11 +97,10 @@ module _ (s : Bytes) (i : IsLogged s) where
   nested-logged is =
       leaf-fits none (text 255) (value 1 (runOf (value 1 (runIn s)))) (value-passes (value-of PartitionUpdate is 1 refl refl) 1 refl refl) .1
 
--- 5. What Read accepts is one
+-- 5. What is read of the log is one
 
-module _ (input : Bytes) (areBytes : AreBytes input) {n : ℕ} (e : accepted (n ∷ []) ≡ readOf input) where
+module _ (input : Bytes) (areBytes : AreBytes input) {n : ℕ} (e : accepted (n ∷ []) ≡ gotReply (read logged input)) where
   pub it : (r : Rec) × (read logged input ≡ got r n)
-  unfolding readOf
   it = used-got (read logged input) n e
 
   pub record-fits : n ≤ length input

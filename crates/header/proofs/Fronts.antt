@@ -9,7 +9,7 @@ use lib.ListN.{length, take, drop, length-drop, take-append-drop}
 use lib.Seq.{slice, take-take, take-length, length-take-le, length-slice}
 use borrow.Author.Tests.{not-true, not-false, le-leb, lt-leb}
 use Rattle.model.specs.Choice.{every}
-use Rattle.model.specs.Number.{Bytes, AreBytes, bytes, number}
+use Rattle.model.specs.Number.{Bytes, AreBytes, bytes, number, isOffset}
 use Rattle.model.specs.Order.{compareBytes, sameBytes, isSame, thenBy}
 use Rattle.model.specs.Image.{mark, zeros, header, headSize, usedIn, fixedIn, headerOk}
 use Rattle.laws.specs.Numbers.{bytes-number, slice-are-bytes}
@@ -92,7 +92,8 @@ module _ (b : Bytes) (areBytes : AreBytes b) (h : headSize ≤ length b) where
       let gap = zero-part 12 16 _ _ (lit≤ tt) (lit≤ tt) refl used in
       let epoch = number-part 16 24 _ _ (lit≤ tt) (lit≤ tt) refl gap in
       let kraft = number-part 24 26 _ _ (lit≤ tt) (lit≤ tt) refl epoch in
-      zero-part 26 64 _ _ (lit≤ tt) (lit≤ tt) refl kraft
+      let rest = zero-part 26 56 _ _ (lit≤ tt) (lit≤ tt) refl kraft in
+      number-part 56 64 _ _ (lit≤ tt) (lit≤ tt) refl rest
 
 -- 3. What the code learns of the mark, of the gap and of the end
 
@@ -107,8 +108,8 @@ module _ (b : Bytes) {m : Bool} (em : m ≡ sameBytes (take 8 (drop 0 b)) mark) 
     pub no-gap : not g ≡ true → false ≡ frontOk b
     no-gap h = rw (← em, not-false m hm, gap-slice, not-true g h)
 
-    pub front-end : not g ≡ false → {e : Bool} → e ≡ every (λ x. eqb x 0) (take 38 (drop 26 b)) → e ≡ frontOk b
-    front-end h q = rw (← em, not-false m hm, gap-slice, not-false g h) (q ∙ ap (every (λ x. eqb x 0)) (take-drop 26 38 b))
+    pub front-end : not g ≡ false → {e : Bool} → e ≡ every (λ x. eqb x 0) (take 30 (drop 26 b)) → e ≡ frontOk b
+    front-end h q = rw (← em, not-false m hm, gap-slice, not-false g h) (q ∙ ap (every (λ x. eqb x 0)) (take-drop 26 30 b))
 
 -- 4. The header's test, exit by exit
 
@@ -129,8 +130,16 @@ module _ (b : Bytes) (areBytes : AreBytes b) (h : headSize ≤ length b) {f : Bo
     unfolding headerOk
     bad-high l m = rw (front, not-false f q, ← eu, le-leb headSize u l, lt-leb u (length b) m)
 
-    pub rest-zero : headSize ≤ u → u ≤ length b → {e : Bool} → e ≡ every (λ x. eqb x 0) (take (length b - u) (drop u b)) → e ≡ headerOk b
-    unfolding headerOk
-    rest-zero l m w =
-        let all : take (length b - u) (drop u b) ≡ drop u b = ap (λ n. take n (drop u b)) (sym (length-drop u b)) ∙ take-length (drop u b) in
-        rw (front, not-false f q, ← eu, le-leb headSize u l, le-leb u (length b) m, ← all) w
+    module _ (l : headSize ≤ u) (m : u ≤ length b) {e : Bool} (ee : e ≡ every (λ x. eqb x 0) (take (length b - u) (drop u b))) where
+      rest : every (λ x. eqb x 0) (drop u b) ≡ e
+      rest =
+          let all : take (length b - u) (drop u b) ≡ drop u b = ap (λ n. take n (drop u b)) (sym (length-drop u b)) ∙ take-length (drop u b) in
+          rw (← all) (sym ee)
+
+      pub bad-rest : not e ≡ true → false ≡ headerOk b
+      unfolding headerOk
+      bad-rest r = rw (front, not-false f q, ← eu, le-leb headSize u l, le-leb u (length b) m, rest, not-true e r)
+
+      pub last-offset : not e ≡ false → {n : ℕ} → n ≡ fixedIn b .offset → {o : Bool} → o ≡ isOffset n → o ≡ headerOk b
+      unfolding headerOk
+      last-offset r en eo = rw (front, not-false f q, ← eu, le-leb headSize u l, le-leb u (length b) m, rest, not-false e r, ← en) eo

@@ -18,9 +18,9 @@ drop-zeros zero n = let e : n ≡ n - 0 = omega arith in ap zeros e
 drop-zeros (suc k) zero = let e : 0 ≡ 0 - suc k = omega arith in ap zeros e
 drop-zeros (suc k) (suc n) = let e : n - k ≡ suc n - suc k = omega arith in drop-zeros k n ∙ ap zeros e
 
-fresh-image : (n : ℕ) → header headSize (fixedOf (span 8 - 1) 0) ++ zeros (n - headSize) ≡ imageOf n fresh
+fresh-image : (n : ℕ) → header headSize (fixedOf (span 8 - 1) 0 (span 8 - 1)) ++ zeros (n - headSize) ≡ imageOf n fresh
 unfolding imageOf entryBytes
-fresh-image n = ap (λ t. t ++ zeros (n - headSize)) (sym (append-nil (header headSize (fixedOf (span 8 - 1) 0))))
+fresh-image n = ap (λ t. t ++ zeros (n - headSize)) (sym (append-nil (header headSize (fixedOf (span 8 - 1) 0 (span 8 - 1)))))
 
 module _ (b : Bytes) {k : Bool} (ek : k ≡ isCapacity (length b)) where
   pub open-refused : not k ≡ true → (numberReply 1 ≡ openOf b .reply) × (b ≡ openOf b .buffer)
@@ -31,10 +31,10 @@ module _ (b : Bytes) {k : Bool} (ek : k ≡ isCapacity (length b)) where
     pub head-fits : headSize ≤ length v
     head-fits = let l = capacity-least (length b) (sym ek ∙ not-false k h) in rw (ev, length-replicate) (omega arith)
 
-    pub opened : {w : Bytes} → w ≡ header headSize (fixedOf (span 8 - 1) 0) ++ drop headSize v
+    pub opened : {w : Bytes} → w ≡ header headSize (fixedOf (span 8 - 1) 0 (span 8 - 1)) ++ drop headSize v
         → (numberReply 0 ≡ openOf b .reply) × (w ≡ openOf b .buffer)
     unfolding openOf
     opened {w} ew =
         let rest : drop headSize v ≡ zeros (length b - headSize) = ap (drop headSize) ev ∙ drop-zeros headSize (length b) in
-        let image = ew ∙ ap (λ t. header headSize (fixedOf (span 8 - 1) 0) ++ t) rest ∙ fresh-image (length b) in
+        let image = ew ∙ ap (λ t. header headSize (fixedOf (span 8 - 1) 0 (span 8 - 1)) ++ t) rest ∙ fresh-image (length b) in
         rw (← ek, not-false k h) (refl, image)

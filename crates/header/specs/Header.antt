@@ -10,9 +10,9 @@ use Rattle.model.specs.Order.{sameBytes}
 use Rattle.model.specs.Contents.{Fixed}
 use Rattle.model.specs.Image.{mark}
 
-abbrev pub fixedOf : ℕ → ℕ → Fixed
-fixedOf epoch kraft = record { epoch = epoch; kraft = kraft }
+abbrev pub fixedOf : ℕ → ℕ → ℕ → Fixed
+fixedOf epoch kraft offset = record { epoch = epoch; kraft = kraft; offset = offset }
 
 -- the bytes of the header that no number fills
 abbrev pub frontOk : Bytes → Bool
-frontOk b = sameBytes (slice 0 8 b) mark && every (λ x. eqb x 0) (slice 12 16 b) && every (λ x. eqb x 0) (slice 26 64 b)
+frontOk b = sameBytes (slice 0 8 b) mark && every (λ x. eqb x 0) (slice 12 16 b) && every (λ x. eqb x 0) (slice 26 56 b)

@@ -1,4 +1,5 @@
-// The header of an image: its mark and version, the used length, the features epoch and the kraft version. And Open, which writes a fresh one.
+// The header of an image: its mark and version, the used length, the features epoch, the kraft version and the log offset. And Open, which
+// writes a fresh one.
 use model::refusals::NO_IMAGE;
 ghost use mathlib.Core.Path.{_≡_};
 ghost use mathlib.Core.List.{_++_};
@@ -12,12 +13,15 @@ ghost use Rattle.header.specs.Header.{fixedOf, frontOk};
 // The header's size, and the least and the greatest capacity.
 pub const HEAD_SIZE: usize = 64;
 
-const LEAST_CAPACITY: usize = 128;
+const LEAST_CAPACITY: usize = 144;
 
 const MOST_CAPACITY: usize = 65536;
 
 // The epoch before any, -1, by its bytes.
 pub const NO_EPOCH: u64 = 0xffff_ffff_ffff_ffff;
+
+// The log offset before any record is applied, -1, by its bytes.
+pub const NO_OFFSET: u64 = 0xffff_ffff_ffff_ffff;
 
 // Whether a buffer of `n` bytes can hold an image.
 pub fn is_capacity(n: usize) -> bool
@@ -50,21 +54,29 @@ pub fn kraft_in(b: &[u8]) -> u64
     wire::get(b, 24, 2)
 }
 
+// The log offset of the last record applied, by its bytes.
+pub fn offset_in(b: &[u8]) -> u64
+    requires { ⌜ headSize ≤ length (now b) ⌝ }
+    ensures { λ r. ⌜ r ≡ fixedIn (now (b .entry)) .offset ⌝ }
+{
+    wire::get(b, 56, 8)
+}
+
 // Whether the mark, the version and the zeros of the header stand.
 fn front_ok(b: &[u8]) -> bool
     requires { ⌜ headSize ≤ length (now b) ⌝ }
     ensures { λ r. ⌜ r ≡ frontOk (now (b .entry)) ⌝ }
 {
-    if !wire::same(&b[0..8], b"KRABKA\x00\x01") {
+    if !wire::same(&b[0..8], b"KRABKA\x00\x02") {
         return false;
     }
     if !wire::is_clear(&b[12..16]) {
         return false;
     }
-    wire::is_clear(&b[26..HEAD_SIZE])
+    wire::is_clear(&b[26..56])
 }
 
-// Whether the header stands, its used length is within the bytes, and the bytes past it are zero.
+// Whether the header stands, its used length is within the bytes, the bytes past it are zero, and the log offset is one.
 pub fn header_ok(b: &[u8]) -> bool
     requires { ⌜ headSize ≤ length (now b) ⌝ }
     ensures { λ r. ⌜ r ≡ headerOk (now (b .entry)) ⌝ }
@@ -79,23 +91,27 @@ pub fn header_ok(b: &[u8]) -> bool
     if b.len() < used {
         return false;
     }
-    wire::is_clear(&b[used..])
+    if !wire::is_clear(&b[used..]) {
+        return false;
+    }
+    wire::is_offset(offset_in(b))
 }
 
 // Writes a header.
-pub fn put_header(b: &mut [u8], used: usize, epoch: u64, kraft: u64)
+pub fn put_header(b: &mut [u8], used: usize, epoch: u64, kraft: u64, offset: u64)
     requires { ⌜ headSize ≤ length (now b) ⌝ }
-    ensures { λ _. ⌜ now (b .exit) ≡ header used (fixedOf epoch kraft) ++ drop headSize (now (b .entry)) ⌝ }
+    ensures { λ _. ⌜ now (b .exit) ≡ header used (fixedOf epoch kraft offset) ++ drop headSize (now (b .entry)) ⌝ }
 {
-    wire::copy(b, 0, b"KRABKA\x00\x01");
+    wire::copy(b, 0, b"KRABKA\x00\x02");
     wire::put(b, 8, 4, used as u64);
     wire::put(b, 12, 4, 0);
     wire::put(b, 16, 8, epoch);
     wire::put(b, 24, 2, kraft);
-    wire::put(b, 26, 38, 0);
+    wire::put(b, 26, 30, 0);
+    wire::put(b, 56, 8, offset);
 }
 
-// Open: a fresh image in a buffer of 128 to 65,536 bytes, whatever it held. 0, or 1 and nothing is changed.
+// Open: a fresh image in a buffer of 144 to 65,536 bytes, whatever it held. 0, or 1 and nothing is changed.
 pub fn open(b: &mut [u8]) -> u8
     ensures { λ r. ⌜ numberReply r ≡ openOf (now (b .entry)) .reply ⌝ }
     ensures { λ _. ⌜ now (b .exit) ≡ openOf (now (b .entry)) .buffer ⌝ }
@@ -104,6 +120,6 @@ pub fn open(b: &mut [u8]) -> u8
         return NO_IMAGE;
     }
     wire::clear(b);
-    put_header(b, HEAD_SIZE, NO_EPOCH, 0);
+    put_header(b, HEAD_SIZE, NO_EPOCH, 0, NO_OFFSET);
     0
 }

@@ -22,8 +22,8 @@ use Rattle.model.specs.Move.{sortedQuota, plan, moved}
 use Rattle.model.specs.Snapshot.{isLevel}
 use Rattle.model.specs.Validate.{topicExists, unknownTopic, alone, against, judge}
 use Rattle.model.specs.declared.Kind.{Kind}
-use Rattle.model.specs.declared.Kind.the-variants.{Topic, Partition, BrokerRegistration, DeleteTopic, TopicConfig, BrokerConfig, ClientQuota, ProducerIds, UnregisterBroker, KRaftVersion, FeatureLevel, ClientMetricsConfig, FeaturesEpoch}
-use Rattle.model.specs.declared.Kind.the-variants.{PartitionDirAssignment, PartitionOffsetAdvance, GroupConfig, ControllerRegistration, TopicFreeze, BreakGlassProposal, DeleteBreakGlassProposal, PartitionElr, PartitionRecovery, PartitionUpdate, BrokerRegistrationChange, UnregisterController}
+use Rattle.model.specs.declared.Kind.the-variants.{Topic, Partition, BrokerRegistration, DeleteTopic, TopicConfig, BrokerConfig, ClientQuota, ProducerIds, UnregisterBroker, KRaftVersion, FeatureLevel, ClientMetricsConfig, FeaturesEpoch, PartitionDirAssignment}
+use Rattle.model.specs.declared.Kind.the-variants.{PartitionOffsetAdvance, GroupConfig, ControllerRegistration, TopicFreeze, BreakGlassProposal, DeleteBreakGlassProposal, PartitionElr, PartitionRecovery, PartitionUpdate, BrokerRegistrationChange, UnregisterController, LogOffset}
 use Rattle.laws.specs.Choice.{true-false, orThen-right}
 use Rattle.laws.specs.Lists.{All, all-append, all-map}
 use Rattle.laws.specs.Map.{Asc, all-put, all-remove, all-keep}
@@ -264,6 +264,7 @@ module _ (c : Contents) (s : Holds c) (good : Good c) where
   plan-good PartitionOffsetAdvance f w ok mild before after = milds-good (plan PartitionOffsetAdvance f l) (refl, tt) w c s good
   plan-good DeleteBreakGlassProposal f w ok mild before after = milds-good (plan DeleteBreakGlassProposal f l) (tt, tt) w c s good
   plan-good UnregisterController f w ok mild before after = milds-good (plan UnregisterController f l) (tt, tt) w c s good
+  plan-good LogOffset f w ok mild before after = milds-good (plan LogOffset f l) tt w c s good
   plan-good TopicConfig f w ok mild before after =
       milds-good (plan TopicConfig f l) (set-mild (isSome (field 2 f)) (rec TopicConfig f) refl, tt) w c s good
   plan-good ClientMetricsConfig f w ok mild before after =

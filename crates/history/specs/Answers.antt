@@ -6,9 +6,9 @@ use lib.ListN.{length}
 use Rattle.model.specs.Number.{Bytes}
 use Rattle.model.specs.Contents.{Contents}
 use Rattle.model.specs.Image.{isImage, contentsOf}
-use Rattle.model.specs.Snapshot.{snapshot, snapshotOf}
+use Rattle.model.specs.Snapshot.{body, snapshot, snapshotOf}
 use Rattle.model.specs.Validate.{validateOf}
-use Rattle.model.specs.Lookup.{topicByName, topicById, partitionOf, brokerOf, epochOf, shortOf, freezeOf, throttleOf}
+use Rattle.model.specs.Lookup.{topicByName, topicById, partitionOf, brokerOf, epochOf, offsetOf, shortOf, freezeOf, throttleOf}
 use Rattle.model.specs.Downgrade.{downgrade, downgradeOf}
 use Rattle.history.specs.Like.{Like}
 
@@ -20,7 +20,7 @@ pub record Alike (u c : Bytes) : Type 0 where
   pub contents : Like (contentsOf u) (contentsOf c)
 
 pub same-snapshot : (u c : Contents) → Like u c → snapshot c ≡ snapshot u
-unfolding snapshot
+unfolding snapshot body
 same-snapshot u c k = rw (k .real, k .fixed)
 
 module _ (u c : Bytes) (a : Alike u c) where
@@ -50,6 +50,10 @@ module _ (u c : Bytes) (a : Alike u c) where
   pub same-epoch : epochOf c ≡ epochOf u
   unfolding epochOf
   same-epoch = rw (a .first, a .second, a .contents .fixed)
+
+  pub same-offset : offsetOf c ≡ offsetOf u
+  unfolding offsetOf
+  same-offset = rw (a .first, a .second, a .contents .fixed)
 
   pub same-short : shortOf c ≡ shortOf u
   unfolding shortOf

@@ -16,7 +16,7 @@ use Rattle.model.specs.Validate.{validateOf, judge}
 use Rattle.model.specs.Apply.{Applied, stays, becomes, laid, applyOf}
 use Rattle.model.specs.Snapshot.{emit, snapshot, snapshotOf, restoreOf, restored}
 use Rattle.model.specs.Reply.{refused, accepted, Ended, unchanged, emitBytes}
-use Rattle.model.specs.History.{Step, give, askTopic, askTopicId, askPartition, askBroker, askEpoch, askShort, askFreeze, askThrottle, askDowngrade, snap, cut}
+use Rattle.model.specs.History.{Step, give, askTopic, askTopicId, askPartition, askBroker, askEpoch, askOffset, askShort, askFreeze, askThrottle, askDowngrade, snap, cut}
 use Rattle.model.specs.History.{Answer, verdict, judged, imageAfter, written, cutImage, after, reached, StepGiven, Given}
 use Rattle.laws_records.specs.Records.{reads, fields-read}
 use Rattle.laws_image.specs.Fits.{Fits}
@@ -36,13 +36,14 @@ abbrev pub fitsOwn : Bytes → Contents → Bool
 fitsOwn own c = leb (length (joined recordBytes (snapshot c))) (length own)
 
 unfoldable pub effect : ℕ → Step → Contents → Applied
-effect capacity (give input) c = offered capacity (read logged input) c
+effect capacity (give o input) c = offered capacity o (read logged input) c
 effect capacity (cut own other) c = cond (fitsOwn own c) (becomes (restored c)) (stays 19)
 effect capacity (askTopic name out) c = stays 0
 effect capacity (askTopicId id out) c = stays 0
 effect capacity (askPartition name n out) c = stays 0
 effect capacity (askBroker node out) c = stays 0
 effect capacity askEpoch c = stays 0
+effect capacity askOffset c = stays 0
 effect capacity askShort c = stays 0
 effect capacity (askFreeze name out) c = stays 0
 effect capacity (askThrottle node which) c = stays 0
@@ -67,13 +68,14 @@ module _ (capacity : ℕ) (c : Contents) (fits : Fits capacity c) where
 
   effect-fits : (s : Step) → StepGiven capacity s → Fits capacity (contentsAfter c (effect capacity s c))
   unfolding effect
-  effect-fits (give input) h = offered-fits capacity c fits (read logged input) (is-read input h)
+  effect-fits (give o input) h = offered-fits capacity o (h .1) c fits (read logged input) (is-read input (h .0))
   effect-fits (cut own other) h = cut-fits own
   effect-fits (askTopic name out) h = fits
   effect-fits (askTopicId id out) h = fits
   effect-fits (askPartition name n out) h = fits
   effect-fits (askBroker node out) h = fits
   effect-fits askEpoch h = fits
+  effect-fits askOffset h = fits
   effect-fits askShort h = fits
   effect-fits (askFreeze name out) h = fits
   effect-fits (askThrottle node which) h = fits
@@ -106,12 +108,12 @@ module _ (image input : Bytes) (is : isImage image ≡ true) where
       go (bad n) = refl
       go (got r used) = refl
 
-  pub apply-laid : applyOf image input ≡ laid image (applied (length image) (read logged input) (contentsOf image))
-  apply-laid = go (read logged input) refl
+  pub apply-laid : (o : ℕ) → applyOf image o input ≡ laid image (applied (length image) o (read logged input) (contentsOf image))
+  apply-laid o = go (read logged input) refl
     where
-      go : (g : Got) → read logged input ≡ g → applyOf image input ≡ laid image (applied (length image) g (contentsOf image))
-      go (bad n) e = apply-unread image input is n e
-      go (got r used) e = apply-read image input is r used e
+      go : (g : Got) → read logged input ≡ g → applyOf image o input ≡ laid image (applied (length image) o g (contentsOf image))
+      go (bad n) e = apply-unread image o input is n e
+      go (got r used) e = apply-read image o input is r used e
 
 -- 3. A step leaves the image, or the image of other contents
 
@@ -119,12 +121,12 @@ module _ (capacity : ℕ) (image : Bytes) (h : Image capacity image) where
   abbrev c : Contents
   c = contentsOf image
 
-  give-effect : (input : Bytes) → imageAfter input image ≡ laid image (offered capacity (read logged input) c) .buffer
-  give-effect input =
+  give-effect : (o : ℕ) (input : Bytes) → imageAfter o input image ≡ laid image (offered capacity o (read logged input) c) .buffer
+  give-effect o input =
       let g = read logged input in
-      let laid-by : applyOf image input .buffer ≡ laid image (applied capacity g c) .buffer =
-      ap (λ e. e .buffer) (apply-laid image input (h .is)) ∙ ap (λ n. laid image (applied n g c) .buffer) (h .size) in
-      rw (validate-contents image input (h .is), laid-by) (go (validated g c) (applied capacity g c) (eqb (validated g c) 0))
+      let laid-by : applyOf image o input .buffer ≡ laid image (applied capacity o g c) .buffer =
+      ap (λ e. e .buffer) (apply-laid image input (h .is) o) ∙ ap (λ n. laid image (applied n o g c) .buffer) (h .size) in
+      rw (validate-contents image input (h .is), laid-by) (go (validated g c) (applied capacity o g c) (eqb (validated g c) 0))
     where
       go : (n : ℕ) (a : Applied) (b : Bool) → cond b (laid image a .buffer) image ≡ laid image (cond b a (stays n)) .buffer
       go n a true = refl
@@ -163,13 +165,14 @@ module _ (capacity : ℕ) (image : Bytes) (h : Image capacity image) where
 
   after-effect : (s : Step) → StepGiven capacity s → after s image ≡ laid image (effect capacity s c) .buffer
   unfolding after effect
-  after-effect (give input) k = give-effect input
+  after-effect (give o input) k = give-effect o input
   after-effect (cut own other) k = cut-effect own other k
   after-effect (askTopic name out) k = refl
   after-effect (askTopicId id out) k = refl
   after-effect (askPartition name n out) k = refl
   after-effect (askBroker node out) k = refl
   after-effect askEpoch k = refl
+  after-effect askOffset k = refl
   after-effect askShort k = refl
   after-effect (askFreeze name out) k = refl
   after-effect (askThrottle node which) k = refl
@@ -209,16 +212,16 @@ laid-reply : (image : Bytes) (a : Applied) → laid image a .reply ≡ refused (
 laid-reply image (stays n) = refl
 laid-reply image (becomes c) = refl
 
-pub judged-offered : (capacity : ℕ) (image : Bytes) → Image capacity image → (input : Bytes)
+pub judged-offered : (capacity : ℕ) (image : Bytes) → Image capacity image → (o : ℕ) (input : Bytes)
     → let g = read logged input in
-    judged input image ≡ verdictOf (validated g (contentsOf image)) (refusalNumber (offered capacity g (contentsOf image)))
-judged-offered capacity image h input =
+    judged o input image ≡ verdictOf (validated g (contentsOf image)) (refusalNumber (offered capacity o g (contentsOf image)))
+judged-offered capacity image h o input =
     let c = contentsOf image in
     let g = read logged input in
-    let replied : applyOf image input .reply ≡ refused (refusalNumber (applied capacity g c)) =
-    ap (λ e. e .reply) (apply-laid image input (h .is)) ∙ laid-reply image (applied (length image) g c)
-    ∙ ap (λ n. refused (refusalNumber (applied n g c))) (h .size) in
-    rw (validate-contents image input (h .is), replied) (go (validated g c) (applied capacity g c) (eqb (validated g c) 0))
+    let replied : applyOf image o input .reply ≡ refused (refusalNumber (applied capacity o g c)) =
+    ap (λ e. e .reply) (apply-laid image input (h .is) o) ∙ laid-reply image (applied (length image) o g c)
+    ∙ ap (λ n. refused (refusalNumber (applied n o g c))) (h .size) in
+    rw (validate-contents image input (h .is), replied) (go (validated g c) (applied capacity o g c) (eqb (validated g c) 0))
   where
     go : (n : ℕ) (a : Applied) (b : Bool)
         → verdict (refused n) (cond b (some (refused (refusalNumber a))) none)

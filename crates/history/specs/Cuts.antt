@@ -8,7 +8,8 @@ use Rattle.model.specs.Choice.{every}
 use Rattle.model.specs.Number.{Bytes}
 use Rattle.model.specs.Image.{isCapacity, imageOf, contentsOf, openOf}
 use Rattle.model.specs.Snapshot.{restored}
-use Rattle.model.specs.History.{Step, give, askTopic, askTopicId, askPartition, askBroker, askEpoch, askShort, askFreeze, askThrottle, askDowngrade, snap, cut}
+use Rattle.model.specs.Lookup.{offsetOf}
+use Rattle.model.specs.History.{Step, give, askTopic, askTopicId, askPartition, askBroker, askEpoch, askOffset, askShort, askFreeze, askThrottle, askDowngrade, snap, cut}
 use Rattle.model.specs.History.{cutImage, answer, after, run, reached, isCut, uncut, idsApart, factorHolds, premises, StepGiven, Given}
 use Rattle.model.specs.History.{Premise, ids, factors, epochs, room, meetsAt, meets, holds}
 use Rattle.model.specs.History.{CutsUnseen, CutBecomesRestored, CutAnywhere, ReachedIsImage}
@@ -32,6 +33,7 @@ AlikeAlong (s ∷ steps) u c = cond (isCut s) (AlikeAlong steps u (after s c)) (
 pub record Unseen (steps : List Step) (u c : Bytes) : Type 0 where
   pub answers : run steps c ≡ run (uncut steps) u
   pub images : AlikeAlong steps u c
+  pub offsets : offsetOf (reached steps c) ≡ offsetOf (reached (uncut steps) u)
 
 -- 2. Its first step: a cut, or a step that both histories have
 
@@ -42,12 +44,13 @@ data CutOrNot : Step → Type 0 where
 cut-or-not : (s : Step) → CutOrNot s
 unfolding isCut
 cut-or-not (cut own other) = is-cut own other
-cut-or-not (give input) = not-cut refl
+cut-or-not (give o input) = not-cut refl
 cut-or-not (askTopic name out) = not-cut refl
 cut-or-not (askTopicId id out) = not-cut refl
 cut-or-not (askPartition name n out) = not-cut refl
 cut-or-not (askBroker node out) = not-cut refl
 cut-or-not askEpoch = not-cut refl
+cut-or-not askOffset = not-cut refl
 cut-or-not askShort = not-cut refl
 cut-or-not (askFreeze name out) = not-cut refl
 cut-or-not (askThrottle node which) = not-cut refl
@@ -56,8 +59,8 @@ cut-or-not (snap out) = not-cut refl
 
 cut-unseen : (own other : Bytes) (steps : List Step) (u c : Bytes) → Unseen steps u (after (cut own other) c)
     → Unseen (cut own other ∷ steps) u c
-unfolding run uncut isCut answer
-cut-unseen own other steps u c t = record { answers = t .answers; images = t .images }
+unfolding run uncut isCut answer reached
+cut-unseen own other steps u c t = record { answers = t .answers; images = t .images; offsets = t .offsets }
 
 uncut-step : (s : Step) (steps : List Step) → isCut s ≡ false → uncut (s ∷ steps) ≡ s ∷ uncut steps
 unfolding uncut
@@ -65,8 +68,12 @@ uncut-step s steps e = rw e
 
 step-unseen : (s : Step) (steps : List Step) (u c : Bytes) → isCut s ≡ false → answer s c ≡ answer s u → Alike u c
     → Unseen steps (after s u) (after s c) → Unseen (s ∷ steps) u c
-unfolding run
-step-unseen s steps u c e p a t = record { answers = rw (uncut-step s steps e, p, t .answers); images = rw e (a, t .images) }
+unfolding run reached
+step-unseen s steps u c e p a t = record {
+  answers = rw (uncut-step s steps e, p, t .answers);
+  images = rw e (a, t .images);
+  offsets = rw (uncut-step s steps e) (t .offsets);
+}
 
 -- what the premises say of a history, of its first step, and of the rest
 abbrev pub AllMeet : List Step → Bytes → Type 0
@@ -113,8 +120,9 @@ held s steps u h =
 module _ (capacity : ℕ) where
   pub unseen : (steps : List Step) (u c : Bytes) → Image capacity u → Image capacity c → Given capacity steps
       → Close (contentsOf u) (contentsOf c) → AllMeet (uncut steps) u → Unseen steps u c
-  unfolding run uncut isCut
-  unseen [] u c iu ic given close h = record { answers = refl; images = λ premise. alike capacity u c iu ic (close premise .1) }
+  unfolding run uncut isCut reached offsetOf
+  unseen [] u c iu ic given close h =
+      record { answers = refl; images = λ premise. alike capacity u c iu ic (close .alike premise .1); offsets = rw (iu .is, ic .is, close .offset) refl }
   unseen (s ∷ steps) u c iu ic given close h = go (cut-or-not s) (given .0) h (λ v d iv id. unseen steps v d iv id (given .1))
     where
       go : {t : Step} → CutOrNot t → StepGiven capacity t → AllMeet (uncut (t ∷ steps)) u
@@ -126,7 +134,7 @@ module _ (capacity : ℕ) where
           cut-unseen own other steps u c (later u (after (cut own other) c) iu image (close-cut capacity u c iu ic close own other k) q)
       go (not-cut {s = t} e) k q later =
           let d = held t (uncut steps) u (rw (uncut-step t steps e) at q) in
-          let now = close (d .premise) in
+          let now = close .alike (d .premise) in
           let same = same-answer capacity u c iu ic (now .1) (now .0) (premises-hold (contentsOf u) (d .premise)) t e k (d .step) in
           step-unseen t steps u c e same (alike capacity u c iu ic (now .1))
           (later (after t u) (after t c) (after-image capacity u iu t k) (after-image capacity c ic t k)
@@ -142,7 +150,8 @@ module _ (buffer : Bytes) (fits : isCapacity (length buffer) ≡ true) (steps : 
   unseen-from-fresh h =
       let o = opened buffer fits in
       let good : Good (contentsOf start) = rw (open-image buffer fits .1) good-fresh in
-      unseen (length buffer) steps start start o o given (λ premise. (good, like-self (contentsOf start))) (all-meet (uncut steps) start h)
+      let close : Close (contentsOf start) (contentsOf start) = record { offset = refl; alike = λ premise. (good, like-self (contentsOf start)) } in
+      unseen (length buffer) steps start start o o given close (all-meet (uncut steps) start h)
 
   pub reached-is-an-image : Image (length buffer) (reached steps start)
   reached-is-an-image = reached-image (length buffer) steps start (opened buffer fits) given
@@ -150,7 +159,7 @@ module _ (buffer : Bytes) (fits : isCapacity (length buffer) ≡ true) (steps : 
 -- 5. The theorems
 
 pub cuts-unseen : CutsUnseen
-cuts-unseen buffer fits steps given h = unseen-from-fresh buffer fits steps given h .answers
+cuts-unseen buffer fits steps given h = let u = unseen-from-fresh buffer fits steps given h in (u .answers, u .offsets)
 
 pub cuts-alike : (buffer : Bytes) → isCapacity (length buffer) ≡ true → (steps : List Step) → Given (length buffer) steps
     → holds (uncut steps) (openOf buffer .buffer) ≡ true → AlikeAlong steps (openOf buffer .buffer) (openOf buffer .buffer)

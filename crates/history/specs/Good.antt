@@ -160,6 +160,6 @@ like-restored u c ascends good premise k = record {
   real = rw (k .real) (entries-still (u .real) ascends (good .accurate) premise);
   fixed =
       rw (k .real, k .fixed)
-      (λ i. record { epoch = epoch-still (u .fixed .epoch) (u .real) (good .early) i; kraft = u .fixed .kraft });
+      (λ i. record { epoch = epoch-still (u .fixed .epoch) (u .real) (good .early) i; kraft = u .fixed .kraft; offset = u .fixed .offset });
   empties = nil;
 }

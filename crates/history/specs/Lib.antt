@@ -9,6 +9,7 @@
 --   images along a history ................................ Bytes.after-contents, Bytes.reached-image
 --   one step of both histories ............................ Beside.same-answer, Beside.close-step, Beside.close-cut
 --   whatever Restore is given, it leaves an image ......... Restores.restore-leaves-image
+--   the image's offset is the last applied record's ....... Offsets.offset-of-last
 --   the theorems .......................................... Cuts.cuts-unseen, cuts-alike, cut-anywhere, cut-becomes-restored,
 --                                                           Cuts.reached-is-image
 pub mod Like
@@ -19,5 +20,6 @@ pub mod Answers
 pub mod Offered
 pub mod Bytes
 pub mod Restores
+pub mod Offsets
 pub mod Beside
 pub mod Cuts

@@ -1,19 +1,20 @@
 -- A record step on contents: what Validate says of what was read, and what Apply then makes of the contents.
 use mathlib.Core.Path.{_≡_, refl, ap}
 use mathlib.Core.Bool.{Bool, true, false, cond}
-use Prim.Native.Nat.{ℕ, _≤_}
+use Prim.Native.Nat.{ℕ, _≤_, _<_}
 use native.Mathlib.Omega.{arith}
 use lib.Dec.{leb, eqb}
 use borrow.Author.Tests.{leb-true, le-leb, eqb-true}
+use Rattle.model.specs.Number.{span}
 use Rattle.model.specs.Record.{Rec, Got, bad, got, onGot}
-use Rattle.model.specs.Contents.{Contents, weight}
+use Rattle.model.specs.Contents.{Fixed, Contents, dated, weight}
 use Rattle.model.specs.Move.{moved, overflows}
 use Rattle.model.specs.Validate.{judge}
-use Rattle.model.specs.Apply.{Applied, stays, becomes, apply}
+use Rattle.model.specs.Apply.{Applied, stays, becomes, apply, datedBy, isLater, applyAt}
 use Rattle.laws_image.specs.Fits.{Fits}
 use Rattle.laws_image.specs.Snapshot.{Loggable}
 use Rattle.laws_apply.specs.Moves.{Holds}
-use Rattle.laws_apply.specs.MovedFits.{contentsAfter, applied-fits}
+use Rattle.laws_apply.specs.MovedFits.{contentsAfter, applied-at-fits}
 use Rattle.history.specs.Like.{Like, like-weight, like-moved}
 use Rattle.history.specs.Good.{Premises, Good}
 use Rattle.history.specs.Accepted.{MildRecord, good-moved}
@@ -23,12 +24,12 @@ abbrev pub validated : Got → Contents → ℕ
 validated g c = onGot g (λ n. n) (λ r used. judge r (c .real))
 
 -- what Apply does with it
-abbrev pub applied : ℕ → Got → Contents → Applied
-applied capacity g c = onGot g stays (λ r used. apply capacity r c)
+abbrev pub applied : ℕ → ℕ → Got → Contents → Applied
+applied capacity o g c = onGot g stays (λ r used. applyAt capacity o r c)
 
 -- the step: Apply's where Validate says 0, else nothing changes
-abbrev pub offered : ℕ → Got → Contents → Applied
-offered capacity g c = cond (eqb (validated g c) 0) (applied capacity g c) (stays (validated g c))
+abbrev pub offered : ℕ → ℕ → Got → Contents → Applied
+offered capacity o g c = cond (eqb (validated g c) 0) (applied capacity o g c) (stays (validated g c))
 
 -- 1. Contents fit after it
 
@@ -37,12 +38,13 @@ abbrev pub IsRead : Got → Type 0
 IsRead (bad n) = Unit {0}
 IsRead (got r used) = Loggable r
 
-pub offered-fits : (capacity : ℕ) (c : Contents) → Fits capacity c → (g : Got) → IsRead g → Fits capacity (contentsAfter c (offered capacity g c))
-offered-fits capacity c fits g read = go (eqb (validated g c) 0) g read
+pub offered-fits : (capacity o : ℕ) → o < span 8 → (c : Contents) → Fits capacity c → (g : Got) → IsRead g
+    → Fits capacity (contentsAfter c (offered capacity o g c))
+offered-fits capacity o wide c fits g read = go (eqb (validated g c) 0) g read
   where
-    go : (b : Bool) (h : Got) → IsRead h → Fits capacity (contentsAfter c (cond b (applied capacity h c) (stays (validated h c))))
+    go : (b : Bool) (h : Got) → IsRead h → Fits capacity (contentsAfter c (cond b (applied capacity o h c) (stays (validated h c))))
     go true (bad n) p = fits
-    go true (got r used) p = applied-fits capacity c fits r (p .0) (p .1)
+    go true (got r used) p = applied-at-fits capacity o c fits wide r (p .0) (p .1)
     go false h p = fits
 
 -- 2. Both of two contents stay, by the same number, or both become others
@@ -63,7 +65,7 @@ abbrev pub IsMild : Got → Type 0
 IsMild (bad n) = Unit {0}
 IsMild (got r used) = MildRecord r
 
-module _ (capacity : ℕ) (u c : Contents) (k : Like u c) (s : Holds u) (good : Good u) (premise : Premises (u .real)) where
+module _ (capacity o : ℕ) (u c : Contents) (k : Like u c) (s : Holds u) (good : Good u) (premise : Premises (u .real)) where
   apply-matched : (r : Rec) → Loggable r → MildRecord r → judge r (u .real) ≡ 0 → (apply capacity r u ≡ stays 18 → ⊥)
       → Matched Next (apply capacity r u) (apply capacity r c)
   unfolding apply
@@ -82,8 +84,26 @@ module _ (capacity : ℕ) (u c : Contents) (k : Like u c) (s : Holds u) (good : 
           rw (le-leb (weight (moved r c)) capacity room-c) (both-become (like, good-moved r given mild u s good ok premise))
       go false false q h = absurd (h refl)
 
-  pub offered-matched : (g : Got) → IsRead g → IsMild g → (eqb (validated g u) 0 ≡ true → applied capacity g u ≡ stays 18 → ⊥)
-      → Matched Next (offered capacity g u) (offered capacity g c)
+  -- the same at an offset
+  dated-matched : {a b : Applied} → Matched Next a b → Matched Next (datedBy o a) (datedBy o b)
+  dated-matched (both-stay n) = both-stay n
+  dated-matched (both-become {u = v} {c = d} p) =
+      let dates : Fixed → Fixed = λ f. record { epoch = f .epoch; kraft = f .kraft; offset = o } in
+      let like : Like (dated o v) (dated o d) = record { real = p .0 .real; fixed = ap dates (p .0 .fixed); empties = p .0 .empties } in
+      both-become (like, λ q. let g = p .1 q in record { accurate = g .accurate; early = g .early })
+
+  at-matched : (r : Rec) → Loggable r → MildRecord r → judge r (u .real) ≡ 0 → (applyAt capacity o r u ≡ stays 18 → ⊥)
+      → Matched Next (applyAt capacity o r u) (applyAt capacity o r c)
+  unfolding applyAt
+  at-matched r given mild ok room = rw (ap (λ (f : Fixed). isLater (f .offset) o) (k .fixed)) (go (isLater (u .fixed .offset) o) refl)
+    where
+      go : (b : Bool) → isLater (u .fixed .offset) o ≡ b
+          → Matched Next (cond b (datedBy o (apply capacity r u)) (stays 21)) (cond b (datedBy o (apply capacity r c)) (stays 21))
+      go true e = dated-matched (apply-matched r given mild ok (λ q. room (rw (e, q) refl)))
+      go false e = both-stay 21
+
+  pub offered-matched : (g : Got) → IsRead g → IsMild g → (eqb (validated g u) 0 ≡ true → applied capacity o g u ≡ stays 18 → ⊥)
+      → Matched Next (offered capacity o g u) (offered capacity o g c)
   offered-matched (bad n) read mild room = go (eqb n 0)
     where
       go : (b : Bool) → Matched Next (cond b (stays n) (stays n)) (cond b (stays n) (stays n))
@@ -92,6 +112,6 @@ module _ (capacity : ℕ) (u c : Contents) (k : Like u c) (s : Holds u) (good : 
   offered-matched (got r used) read mild room = rw (ap (judge r) (k .real)) (go (eqb (judge r (u .real)) 0) refl)
     where
       go : (b : Bool) → eqb (judge r (u .real)) 0 ≡ b
-          → Matched Next (cond b (apply capacity r u) (stays (judge r (u .real)))) (cond b (apply capacity r c) (stays (judge r (u .real))))
-      go true e = apply-matched r read mild (eqb-true (judge r (u .real)) 0 e) (room e)
+          → Matched Next (cond b (applyAt capacity o r u) (stays (judge r (u .real)))) (cond b (applyAt capacity o r c) (stays (judge r (u .real))))
+      go true e = at-matched r read mild (eqb-true (judge r (u .real)) 0 e) (room e)
       go false e = both-stay (judge r (u .real))

@@ -28,7 +28,7 @@ ghost use Rattle.entries.specs.Entries.{recordsIn, Entries};
 ghost use Rattle.image.specs.Test.{realsSound, groupsSound, entriesSound, producersIn, isLight};
 
 // What the fixed parts of an image weigh, and the bytes of producer ids, which weigh nothing.
-const FIXED_ROOM: usize = 128;
+const FIXED_ROOM: usize = 144;
 
 const PRODUCER_SIZE: usize = 36;
 

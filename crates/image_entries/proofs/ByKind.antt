@@ -9,15 +9,17 @@ use Rattle.model.specs.Choice.{isSome, isEmpty}
 use Rattle.model.specs.Number.{Bytes, number}
 use Rattle.model.specs.Run.{field, value, values}
 use Rattle.model.specs.Kind.{kindNumber}
+use Rattle.model.specs.Shape.{stored}
 use Rattle.model.specs.Record.{rec}
 use Rattle.model.specs.Contents.{isBare, isGroup, entitiesInOrder}
 use Rattle.model.specs.Image.{flagReads}
 use Rattle.model.specs.declared.Kind.{Kind}
-use Rattle.laws_records.specs.Kinds.{number-range}
+use Rattle.laws_records.specs.Faults.{fault-known}
 use Rattle.keys.specs.Keys.{kindIn}
 use Rattle.entries.specs.Entries.{IsRecord, recordIn}
+use Rattle.entries.proofs.Records.{known-range}
 use Rattle.image_entries.specs.Stored.{storableRecord}
-use Rattle.image_entries.proofs.Records.{kind-in, kind-is}
+use Rattle.image_entries.proofs.Records.{kind-in, passes, kind-is}
 
 module _ (e : Bytes) (i : IsRecord e) where
   -- 1. What Apply stores: what is asked of a kind is asked of the entry
@@ -27,7 +29,9 @@ module _ (e : Bytes) (i : IsRecord e) where
 
   -- a number that no kind has
   kind-range : (0 < kindIn e) × (kindIn e ≤ 25)
-  kind-range = let r = number-range (recordIn e .kind) in (omega (arith, kind-in e i), omega (arith, kind-in e i))
+  kind-range =
+      let r = known-range (recordIn e .kind) (fault-known stored (recordIn e .kind) (recordIn e .run) (passes e i)) in
+      (omega (arith, kind-in e i), omega (arith, kind-in e i))
 
   pub kind-zero : {A : Type 0} → kindIn e ≡ 0 → A
   kind-zero h = absurd (omega (arith, kind-range))

@@ -35,7 +35,7 @@ module _ (e : Bytes) (i : IsRecord e) where
   pub run-in : runIn e ≡ recordIn e .run
   run-in = ap runIn (i .bytes) ∙ record-run (i .value) (i .passes) ∙ ap (λ r. r .run) (sym (record-in e i))
 
-  passes : fault stored (recordIn e .kind) (recordIn e .run) ≡ 0
+  pub passes : fault stored (recordIn e .kind) (recordIn e .run) ≡ 0
   passes = rw (record-in e i) (i .passes)
 
   -- fields of tag 1 come first

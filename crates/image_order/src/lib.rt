@@ -4,6 +4,7 @@ use entries::Step;
 use keys::compare_keys;
 use model::Order;
 use model::answers::Answer;
+use records::Source;
 use records::read_from;
 ghost use mathlib.Core.Path.{_≡_};
 ghost use Rattle.model.specs.Shape.{stored};
@@ -20,7 +21,7 @@ pub fn all_read(rows: &[u32], s: &[u8]) -> bool
 {
     let mut at = 0;
     while at < s.len() {
-        match read_from(rows, &s[at..], true) {
+        match read_from(rows, &s[at..], Source::Stored) {
             Answer::Used(n) => {
                 at = at + n;
             }

@@ -14,7 +14,7 @@ use Rattle.model.specs.Image.{openOf}
 use Rattle.model.specs.Validate.{validateOf}
 use Rattle.model.specs.Apply.{applyOf}
 use Rattle.model.specs.Snapshot.{snapshotOf, restoreOf}
-use Rattle.model.specs.Lookup.{topicByName, topicById, partitionOf, brokerOf, epochOf, shortOf, freezeOf, throttleOf}
+use Rattle.model.specs.Lookup.{topicByName, topicById, partitionOf, brokerOf, epochOf, offsetOf, shortOf, freezeOf, throttleOf}
 use Rattle.model.specs.Downgrade.{downgradeOf}
 use Rattle.model.specs.declared.Kind.{Kind}
 use Rattle.laws_answers.specs.Values.{Below, none-below, read-below, write-below, open-below, validate-below, apply-below, topic-below, topic-id-below}
@@ -28,7 +28,7 @@ pub record Unpacked : Type 0 where
   pub jeghatuf-write : (kind : ℕ) (tags : Bytes) (lengths : List ℕ) (values out : Bytes) → PackedBack (writeOfNumber kind tags lengths values out .reply)
   pub jeghatuf-open : (buffer : Bytes) → PackedBack (openOf buffer .reply)
   pub jeghatuf-validate : (image input : Bytes) → PackedBack (validateOf image input)
-  pub jeghatuf-apply : (image input : Bytes) → PackedBack (applyOf image input .reply)
+  pub jeghatuf-apply : (image : Bytes) (offset : ℕ) (input : Bytes) → PackedBack (applyOf image offset input .reply)
   pub jeghatuf-topic : (image name out : Bytes) → AreBytes image → PackedBack (topicByName image name out .reply)
   pub jeghatuf-topic-by-id : (image id out : Bytes) → AreBytes image → PackedBack (topicById image id out .reply)
   pub jeghatuf-partition : (image name : Bytes) (number : ℕ) (out : Bytes) → AreBytes image → PackedBack (partitionOf image name number out .reply)
@@ -41,6 +41,7 @@ pub record Unpacked : Type 0 where
   pub jeghatuf-throttle : (image : Bytes) (node kind : ℕ) → CountedBack (throttleOf image node kind)
   -- a number alone: the value is in the lent list
   pub jeghatuf-features-epoch : (image : Bytes) → AloneBack (epochOf image)
+  pub jeghatuf-log-offset : (image : Bytes) → AloneBack (offsetOf image)
   pub jeghatuf-restore : (input image : Bytes) → AloneBack (restoreOf input image .reply)
 
 -- a number of no kind is a refusal, which has no value
@@ -59,7 +60,7 @@ unpacked = record {
       packed-undone (writeOfNumber kind tags lengths values out .reply) (write-number-below kind tags lengths values out);
   jeghatuf-open = λ buffer. packed-undone (openOf buffer .reply) (open-below buffer);
   jeghatuf-validate = λ image input. packed-undone (validateOf image input) (validate-below image input);
-  jeghatuf-apply = λ image input. packed-undone (applyOf image input .reply) (apply-below image input);
+  jeghatuf-apply = λ image offset input. packed-undone (applyOf image offset input .reply) (apply-below image offset input);
   jeghatuf-topic = λ image name out b. packed-undone (topicByName image name out .reply) (topic-below image b name out);
   jeghatuf-topic-by-id = λ image id out b. packed-undone (topicById image id out .reply) (topic-id-below image b id out);
   jeghatuf-partition = λ image name number out b. packed-undone (partitionOf image name number out .reply) (partition-below image b name number out);
@@ -70,5 +71,6 @@ unpacked = record {
   jeghatuf-downgrade = λ image level out b. packed-undone (downgradeOf image level out .reply) (downgrade-below image b level out);
   jeghatuf-throttle = λ image node kind. counted-undone (throttleOf image node kind) (omega (arith, throttle-once image node kind));
   jeghatuf-features-epoch = λ image. alone-undone (epochOf image);
+  jeghatuf-log-offset = λ image. alone-undone (offsetOf image);
   jeghatuf-restore = λ input image. alone-undone (restoreOf input image .reply);
 }

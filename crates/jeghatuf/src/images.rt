@@ -11,7 +11,7 @@ ghost use mathlib.Core.Bool.{cond};
 ghost use Prim.Native.Nat.{_*_};
 ghost use Rattle.model.specs.Apply.{applyOf};
 ghost use Rattle.model.specs.Image.{isImage, openOf};
-ghost use Rattle.model.specs.Lookup.{topicByName, topicById, partitionOf, brokerOf, epochOf, shortOf, freezeOf, throttleOf};
+ghost use Rattle.model.specs.Lookup.{topicByName, topicById, partitionOf, brokerOf, epochOf, offsetOf, shortOf, freezeOf, throttleOf};
 ghost use Rattle.model.specs.Validate.{validateOf};
 ghost use Rattle.packing.specs.Packed.{packed, counted, widened};
 
@@ -43,13 +43,13 @@ pub extern "C" fn jeghatuf_validate(image: &[u8], input: &[u8]) -> u64
     alone(validate::validate(image, input))
 }
 
-// Applies the record at the start of `input` to an image.
+// Applies the record at the start of `input` to an image, at its log offset: an int64_t by its bits.
 #[no_mangle]
-pub extern "C" fn jeghatuf_apply(image: &mut [u8], input: &[u8]) -> u64
-    ensures { λ r. ⌜ r ≡ packed (applyOf (now (image .entry)) (now (input .entry)) .reply) ⌝ }
-    ensures { λ _. ⌜ now (image .exit) ≡ applyOf (now (image .entry)) (now (input .entry)) .buffer ⌝ }
+pub extern "C" fn jeghatuf_apply(image: &mut [u8], offset: u64, input: &[u8]) -> u64
+    ensures { λ r. ⌜ r ≡ packed (applyOf (now (image .entry)) offset (now (input .entry)) .reply) ⌝ }
+    ensures { λ _. ⌜ now (image .exit) ≡ applyOf (now (image .entry)) offset (now (input .entry)) .buffer ⌝ }
 {
-    alone(apply::apply(image, input))
+    alone(apply::apply(image, offset, input))
 }
 
 // The topic of a name, as its record: the bytes written.
@@ -108,6 +108,21 @@ pub extern "C" fn jeghatuf_features_epoch(image: &[u8], value: &mut [u64]) -> u6
     match lookup::features_epoch(image) {
         Value::Is(n) => {
             put_first(value, n);
+            0
+        }
+        Value::Refused(number) => alone(number),
+    }
+}
+
+// The log offset of the last record applied, an int64_t by its bits, in the first of `value`: -1 where there is none.
+#[no_mangle]
+pub extern "C" fn jeghatuf_log_offset(image: &[u8], value: &mut [u64]) -> u64
+    ensures { λ r. ⌜ r ≡ offsetOf (now (image .entry)) .number * 4294967296 ⌝ }
+    ensures { λ _. ⌜ now (value .exit) ≡ widened (offsetOf (now (image .entry))) (now (value .entry)) ⌝ }
+{
+    match lookup::log_offset(image) {
+        Value::Is(offset) => {
+            put_first(value, offset);
             0
         }
         Value::Refused(number) => alone(number),

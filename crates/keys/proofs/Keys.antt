@@ -11,8 +11,8 @@ use Rattle.model.specs.Run.{Run, runOf, field, value, values}
 use Rattle.model.specs.Kind.{kindOf}
 use Rattle.model.specs.Key.{rank, rankPart, numberPart, namePart, entitiesKey, subject, keyOf, keyRank}
 use Rattle.model.specs.declared.Kind.{Kind}
-use Rattle.model.specs.declared.Kind.the-variants.{Topic, Partition, BrokerRegistration, DeleteTopic, TopicConfig, BrokerConfig, ClientQuota, ProducerIds, UnregisterBroker, KRaftVersion, FeatureLevel, ClientMetricsConfig, FeaturesEpoch}
-use Rattle.model.specs.declared.Kind.the-variants.{PartitionDirAssignment, PartitionOffsetAdvance, GroupConfig, ControllerRegistration, TopicFreeze, BreakGlassProposal, DeleteBreakGlassProposal, PartitionElr, PartitionRecovery, PartitionUpdate, BrokerRegistrationChange, UnregisterController}
+use Rattle.model.specs.declared.Kind.the-variants.{Topic, Partition, BrokerRegistration, DeleteTopic, TopicConfig, BrokerConfig, ClientQuota, ProducerIds, UnregisterBroker, KRaftVersion, FeatureLevel, ClientMetricsConfig, FeaturesEpoch, PartitionDirAssignment}
+use Rattle.model.specs.declared.Kind.the-variants.{PartitionOffsetAdvance, GroupConfig, ControllerRegistration, TopicFreeze, BreakGlassProposal, DeleteBreakGlassProposal, PartitionElr, PartitionRecovery, PartitionUpdate, BrokerRegistrationChange, UnregisterController, LogOffset}
 use Rattle.laws.specs.Order.{lt-flip, rank-lt, bytes-total, keys-total}
 use Rattle.laws.specs.Numbers.{drop-are-bytes, number-bound, bytes-number}
 use Rattle.laws_records.specs.Runs.{AreFields, fields-run}
@@ -111,6 +111,7 @@ module _ (r q : Run) (f : AreFields r) (g : AreFields q) where
   subject-order PartitionUpdate w v = no-parts
   subject-order BrokerRegistrationChange w v = no-parts
   subject-order UnregisterController w v = no-parts
+  subject-order LogOffset w v = no-parts
 
 form-fits : (k : Kind) (r : Run) → WidthsFit k r → FormFits (keyForm k) r
 unfolding keyForm
@@ -139,6 +140,7 @@ form-fits PartitionRecovery r w = ((λ e. w), (λ e. absurd (omega arith)))
 form-fits PartitionUpdate r w = ((λ e. absurd (omega arith)), (λ e. absurd (omega arith)))
 form-fits BrokerRegistrationChange r w = ((λ e. absurd (omega arith)), (λ e. absurd (omega arith)))
 form-fits UnregisterController r w = ((λ e. absurd (omega arith)), (λ e. absurd (omega arith)))
+form-fits LogOffset r w = ((λ e. absurd (omega arith)), (λ e. absurd (omega arith)))
 
 -- 3. Whole keys
 
@@ -215,6 +217,7 @@ no-rank PartitionRecovery h r = absurd (omega arith)
 no-rank PartitionUpdate h r = (refl, refl)
 no-rank BrokerRegistrationChange h r = (refl, refl)
 no-rank UnregisterController h r = (refl, refl)
+no-rank LogOffset h r = (refl, refl)
 
 module _ (a b : Bytes) (h : Keyed a) (k : Keyed b) (f : AreBytes a) (g : AreBytes b) where
   same-rank : (n : ℕ) → rank (k .kind) ≡ n → rank (h .kind) ≡ rank (k .kind) → compareKeys (keyIn a) (keyIn b) ≡ byForm (keyForm (h .kind)) (runIn a) (runIn b)

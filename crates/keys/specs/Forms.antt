@@ -11,8 +11,8 @@ use Rattle.model.specs.Run.{Run, value, values}
 use Rattle.model.specs.Kind.{kindOf}
 use Rattle.model.specs.Key.{partitionPart}
 use Rattle.model.specs.declared.Kind.{Kind}
-use Rattle.model.specs.declared.Kind.the-variants.{Topic, Partition, BrokerRegistration, DeleteTopic, TopicConfig, BrokerConfig, ClientQuota, ProducerIds, UnregisterBroker, KRaftVersion, FeatureLevel, ClientMetricsConfig, FeaturesEpoch}
-use Rattle.model.specs.declared.Kind.the-variants.{PartitionDirAssignment, PartitionOffsetAdvance, GroupConfig, ControllerRegistration, TopicFreeze, BreakGlassProposal, DeleteBreakGlassProposal, PartitionElr, PartitionRecovery, PartitionUpdate, BrokerRegistrationChange, UnregisterController}
+use Rattle.model.specs.declared.Kind.the-variants.{Topic, Partition, BrokerRegistration, DeleteTopic, TopicConfig, BrokerConfig, ClientQuota, ProducerIds, UnregisterBroker, KRaftVersion, FeatureLevel, ClientMetricsConfig, FeaturesEpoch, PartitionDirAssignment}
+use Rattle.model.specs.declared.Kind.the-variants.{PartitionOffsetAdvance, GroupConfig, ControllerRegistration, TopicFreeze, BreakGlassProposal, DeleteBreakGlassProposal, PartitionElr, PartitionRecovery, PartitionUpdate, BrokerRegistrationChange, UnregisterController, LogOffset}
 use Rattle.laws_records.specs.Fields.{Ascending}
 use Rattle.keys.specs.Entities.{compareEntities}
 
@@ -42,6 +42,7 @@ keyForm PartitionRecovery = 4
 keyForm PartitionUpdate = 0
 keyForm BrokerRegistrationChange = 0
 keyForm UnregisterController = 0
+keyForm LogOffset = 0
 
 unfoldable pub formOf : ℕ → ℕ
 formOf n = given (kindOf n) 0 keyForm

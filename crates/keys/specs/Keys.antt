@@ -11,8 +11,8 @@ use Rattle.model.specs.Run.{Run, runOf, value}
 use Rattle.model.specs.Kind.{kindOf}
 use Rattle.model.specs.Key.{rank, keyOf}
 use Rattle.model.specs.declared.Kind.{Kind}
-use Rattle.model.specs.declared.Kind.the-variants.{Topic, Partition, BrokerRegistration, DeleteTopic, TopicConfig, BrokerConfig, ClientQuota, ProducerIds, UnregisterBroker, KRaftVersion, FeatureLevel, ClientMetricsConfig, FeaturesEpoch}
-use Rattle.model.specs.declared.Kind.the-variants.{PartitionDirAssignment, PartitionOffsetAdvance, GroupConfig, ControllerRegistration, TopicFreeze, BreakGlassProposal, DeleteBreakGlassProposal, PartitionElr, PartitionRecovery, PartitionUpdate, BrokerRegistrationChange, UnregisterController}
+use Rattle.model.specs.declared.Kind.the-variants.{Topic, Partition, BrokerRegistration, DeleteTopic, TopicConfig, BrokerConfig, ClientQuota, ProducerIds, UnregisterBroker, KRaftVersion, FeatureLevel, ClientMetricsConfig, FeaturesEpoch, PartitionDirAssignment}
+use Rattle.model.specs.declared.Kind.the-variants.{PartitionOffsetAdvance, GroupConfig, ControllerRegistration, TopicFreeze, BreakGlassProposal, DeleteBreakGlassProposal, PartitionElr, PartitionRecovery, PartitionUpdate, BrokerRegistrationChange, UnregisterController, LogOffset}
 use Rattle.laws_records.specs.Fields.{Ascending}
 
 -- a record's kind and fields, by its bytes: all that come after its header
@@ -56,6 +56,7 @@ WidthsFit DeleteBreakGlassProposal r = Unit {0}
 WidthsFit PartitionUpdate r = Unit {0}
 WidthsFit BrokerRegistrationChange r = Unit {0}
 WidthsFit UnregisterController r = Unit {0}
+WidthsFit LogOffset r = Unit {0}
 
 -- bytes that have a key: of a stored record, or of as much of one as its key needs
 pub record Keyed (s : Bytes) : Type 0 where

@@ -10,4 +10,5 @@ pub mod Ranks
 pub mod Refused
 pub mod Freeze
 pub mod Nodes
+pub mod Offsets
 pub mod TopicNames

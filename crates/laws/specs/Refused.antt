@@ -15,8 +15,12 @@ refused B x from (suc n) h r =
     let d = r .1 in
     omega arith
 
--- a kind's number, where the arms are 1 to 25 and then 0
-pub no-kind : (B : Type 0) (x : ℕ) → Refused B x 1 25 × (x ≡ 0 → ⊥) → 26 ≤ x
-no-kind B x r =
+-- a number where the arms are 1 to n and then 0
+pub past-arms : (B : Type 0) (n x : ℕ) → Refused B x 1 n × (x ≡ 0 → ⊥) → 1 + n ≤ x
+past-arms B n x r =
     let d = r .1 in
-    refused B x 1 25 (omega arith) (r .0)
+    refused B x 1 n (omega arith) (r .0)
+
+-- a kind's number, where the arms are the 25 kinds that move an image
+pub no-kind : (B : Type 0) (x : ℕ) → Refused B x 1 25 × (x ≡ 0 → ⊥) → 26 ≤ x
+no-kind B x r = past-arms B 25 x r

@@ -8,7 +8,7 @@ use native.Mathlib.Omega.{arith}
 use lib.ListN.{length}
 use Rattle.model.specs.Choice.{given, orElse, joined, total}
 use Rattle.model.specs.Number.{Bytes}
-use Rattle.model.specs.Shape.{Source, fault}
+use Rattle.model.specs.Shape.{Source, logged, fault}
 use Rattle.model.specs.Record.{Rec, recordBytes}
 use Rattle.model.specs.Order.{Key}
 use Rattle.model.specs.Key.{freezeKey}
@@ -52,7 +52,7 @@ entries-take (e ∷ l) = omega (arith, entries-take l, length-record (kept e))
 module _ (capacity : ℕ) (c : Contents) (f : Fits capacity c) where
   pub entries-short : All ShownShort (c .real)
   entries-short =
-      all-imp (λ e. Storable e × Proper e) ShownShort (λ e p. record-short _ (returned e) (returned-passes e (p .0) (p .1) .0)) (c .real)
+      all-imp (λ e. Storable e × Proper e) ShownShort (λ e p. record-short logged (returned e) (returned-passes e (p .0) (p .1) .0)) (c .real)
       (all-both Storable Proper (c .real) (orderly c (f .orderly) .storables) (f .entries))
 
   pub entries-few : length (c .real) ≤ mostCapacity

@@ -9,7 +9,7 @@ use lib.Dec.{leb}
 use lib.ListN.{length, drop}
 use Rattle.model.specs.Choice.{given, joined}
 use Rattle.model.specs.Number.{Bytes, AreBytes, bytes}
-use Rattle.model.specs.Shape.{logged, fault, stringLimit, textFault}
+use Rattle.model.specs.Shape.{logged, framed, fault, stringLimit, textFault}
 use Rattle.model.specs.Reply.{Reply, accepted, refused, Ended, unchanged, emitBytes}
 use Rattle.model.specs.Record.{Rec, rec, recordBytes, Got, bad, got, read, onGot, readOf, gathered, writing, writeOf}
 use Rattle.model.specs.Order.{Key}
@@ -18,7 +18,7 @@ use Rattle.model.specs.Map.{get}
 use Rattle.model.specs.Contents.{Contents, Entry, key, fresh}
 use Rattle.model.specs.Image.{isCapacity, isImage, contentsOf, imageOf, openOf}
 use Rattle.model.specs.Validate.{judge, validateOf}
-use Rattle.model.specs.Apply.{Applied, stays, becomes, apply, laid, applyOf}
+use Rattle.model.specs.Apply.{Applied, stays, becomes, applyAt, laid, applyOf}
 use Rattle.model.specs.Snapshot.{emit, snapshot, snapshotOf}
 use Rattle.model.specs.Lookup.{found, named, namedBy, freeze, asList, topicByName, topicById, partitionOf, brokerOf, shortCount, shortOf, freezeOf}
 use Rattle.model.specs.Lookup.{throttleName, throttle, asValues, throttleOf}
@@ -63,21 +63,21 @@ named-below (suc n) rs out h = none-below (suc n)
 
 pub read-below : (s : Bytes) → Below (readOf s)
 unfolding readOf
-read-below s = go (read logged s) refl
+read-below s = go (read framed s) refl
   where
-    go : (g : Got) → read logged s ≡ g → Below (onGot g refused (λ r used. accepted (used ∷ [])))
+    go : (g : Got) → read framed s ≡ g → Below (onGot g refused (λ r used. accepted (used ∷ [])))
     go (bad n) e = none-below n
-    go (got r used) e = omega (arith, read-used logged s r used e .0, record-short logged r (reads logged s r used e .passes))
+    go (got r used) e = omega (arith, read-used framed s r used e .0, record-short framed r (reads framed s r used e .passes))
 
 pub write-below : (kind : Kind) (tags : Bytes) (lengths : List ℕ) (values out : Bytes) → Below (writeOf kind tags lengths values out .reply)
 unfolding writeOf
-write-below kind tags lengths values out = go (fault logged kind (gathered tags lengths values)) refl
+write-below kind tags lengths values out = go (fault framed kind (gathered tags lengths values)) refl
   where
     r : Rec
     r = rec kind (gathered tags lengths values)
 
-    go : (n : ℕ) → fault logged kind (gathered tags lengths values) ≡ n → Below (writing n r out .reply)
-    go zero e = emit-below (recordBytes r) out (omega (arith, record-short logged r e))
+    go : (n : ℕ) → fault framed kind (gathered tags lengths values) ≡ n → Below (writing n r out .reply)
+    go zero e = emit-below (recordBytes r) out (omega (arith, record-short framed r e))
     go (suc n) e = none-below (suc n)
 
 -- 3. Operations with no value
@@ -99,19 +99,19 @@ validate-below image input = go (isImage image) (read logged input)
     go true (bad n) = none-below n
     go true (got r used) = none-below (judge r (contentsOf image .real))
 
-pub apply-below : (image input : Bytes) → Below (applyOf image input .reply)
+pub apply-below : (image : Bytes) (offset : ℕ) (input : Bytes) → Below (applyOf image offset input .reply)
 unfolding applyOf
-apply-below image input = go (isImage image) (read logged input)
+apply-below image offset input = go (isImage image) (read logged input)
   where
     laid-below : (a : Applied) → Below (laid image a .reply)
     laid-below (stays n) = none-below n
     laid-below (becomes c) = none-below 0
 
     go : (b : Bool) (g : Got)
-        → Below (cond b (onGot g (λ n. unchanged n image) (λ r used. laid image (apply (length image) r (contentsOf image)))) (unchanged 1 image) .reply)
+        → Below (cond b (onGot g (λ n. unchanged n image) (λ r used. laid image (applyAt (length image) offset r (contentsOf image)))) (unchanged 1 image) .reply)
     go false g = none-below 1
     go true (bad n) = none-below n
-    go true (got r used) = laid-below (apply (length image) r (contentsOf image))
+    go true (got r used) = laid-below (applyAt (length image) offset r (contentsOf image))
 
 -- 4. Operations that read an image
 

@@ -12,7 +12,7 @@ use Rattle.model.specs.Number.{Bytes, AreBytes, number}
 use Rattle.model.specs.Order.{sameBytes}
 use Rattle.model.specs.Run.{Run, runOf, field, value, setField}
 use Rattle.model.specs.Kind.{kindNumber}
-use Rattle.model.specs.Shape.{Form, fixed, below, text, mapKey, raw, list, nodeSet, nested, Row, recordOf, rowsOf, anyRequired, mayFollow}
+use Rattle.model.specs.Shape.{Form, fixed, below, offset, text, mapKey, raw, list, nodeSet, nested, Row, recordOf, rowsOf, anyRequired, mayFollow}
 use Rattle.model.specs.Shape.{listLimit, start, leafFault, runFault, valueFault, logged, stored, shapeOf, fault}
 use Rattle.model.specs.Record.{rec}
 use Rattle.model.specs.Move.{nodeWidth, idWidth, elrRec, recoveryRec, fencedAfter, changedBroker}
@@ -94,6 +94,7 @@ module _ (change : Run) (ok : fault logged BrokerRegistrationChange change ≡ 0
 abbrev isLeaf : Form → Bool
 isLeaf (fixed width) = true
 isLeaf (below bound) = true
+isLeaf offset = true
 isLeaf (text limit) = true
 isLeaf (mapKey limit) = false
 isLeaf (raw limit) = true
@@ -105,6 +106,7 @@ leaf-value : (form : Form) → isLeaf form ≡ true → (prior k : Option Bytes)
 unfolding leafFault valueFault
 leaf-value (fixed width) h prior k v = refl
 leaf-value (below bound) h prior k v = refl
+leaf-value offset h prior k v = refl
 leaf-value (text limit) h prior k v = refl
 leaf-value (mapKey limit) h prior k v = impossible cc
 leaf-value (raw limit) h prior k v = refl

@@ -7,10 +7,12 @@
 --   what a move must carry ................................ Lawful.Lawful
 --   a lawful move keeps what Apply keeps .................. Moves.Holds, Moves.move-holds, Moves.moves-hold
 --   keys that a move or a record does not touch ........... Untouched.untouched, Untouched.moved-other
+--   no move sets the log offset, nor looks at it .......... Moves.offset-move, Moves.moved-dated
 --   records that plans make read back ..................... Changes; quotas with their entities sorted: Quotas
 --   quotas with their entities in another order ........... Permuted.keys-meet, Permuted.keys-apart, Permuted.quotas-meet
 --   every move of a plan is lawful ........................ Plans.plan-lawful
---   contents that fit fit afterwards ...................... MovedFits.moved-fits, MovedFits.outcome, MovedFits.applied-fits
+--   contents that fit fit afterwards ...................... MovedFits.moved-fits, MovedFits.outcome, MovedFits.applied-fits,
+--                                                           MovedFits.applied-at-fits
 --   the last record of a quota in a run stands ............ Spellings.one-group, Spellings.later-stands
 --   Apply keeps images, and what it answers ............... Apply.apply-image, Apply.apply-contents
 pub mod Readable

@@ -6,17 +6,19 @@ use Prim.Native.Nat.{ℕ, _≤_, _<_}
 use native.Mathlib.Omega.{arith}
 use lib.Dec.{leb}
 use borrow.Author.Tests.{leb-true, leb-false}
+use Rattle.model.specs.Number.{span, isOffset}
 use Rattle.model.specs.Shape.{logged, fault}
 use Rattle.model.specs.Record.{Rec}
 use Rattle.model.specs.Map.{any}
 use Rattle.model.specs.Contents.{Entry, topic, part, plain, key, inGroupOf, Contents, partitions, weight, isGroup}
 use Rattle.model.specs.Image.{mostCapacity, isCapacity}
 use Rattle.model.specs.Move.{countOf, plan, moved, overflows}
-use Rattle.model.specs.Apply.{Applied, stays, becomes, apply}
+use Rattle.model.specs.Apply.{Applied, stays, becomes, apply, datedBy, isLater, applyAt}
+use Rattle.laws.specs.Offsets.{later-offset}
 use Rattle.laws.specs.Lists.{All, In, all-in, in-all, all-imp, all-both}
 use Rattle.laws.specs.Map.{in-get}
 use Rattle.laws_records.specs.Runs.{AreFields}
-use Rattle.laws_image.specs.Fits.{Readable, NumbersFit, Proper, Fits}
+use Rattle.laws_image.specs.Fits.{Readable, NumbersFit, Proper, Fits, dated-fits}
 use Rattle.laws_image.specs.Orderly.{Storable, orderly, sound-orderly}
 use Rattle.laws_image.specs.Tests.{capacity-most}
 use Rattle.laws_restore.specs.Weight.{partitions-total}
@@ -45,6 +47,7 @@ fits-holds capacity c fits =
       empties = record { ascends = o .empties-ascend; each = vacant (c .empties) (fits .groups) (o .groups) (o .vacant) };
       epoch = fits .epoch;
       kraft = fits .kraft;
+      offset = fits .offset;
     }
   where
     vacant : (g : List Rec) → All Readable g → All (λ r. isGroup r ≡ true) g → All (λ r. any key (inGroupOf r) (c .real) ≡ false) g
@@ -87,6 +90,7 @@ module _ (c : Contents) (h : Holds c) where
         });
         epoch = h .epoch;
         kraft = h .kraft;
+        offset = h .offset;
         room = room;
       }
 
@@ -134,3 +138,17 @@ applied-fits capacity c fits r ok b = go (outcome capacity r c)
     go (overflowing e) = fits
     go (overweight e w) = fits
     go (fitting e w) = moved-fits capacity c fits r ok b w
+
+-- at an offset that is above the stored one
+pub applied-at-fits : (capacity n : ℕ) (c : Contents) → Fits capacity c → n < span 8 → (r : Rec) → fault logged (r .kind) (r .run) ≡ 0
+    → AreFields (r .run) → Fits capacity (contentsAfter c (applyAt capacity n r c))
+unfolding applyAt
+applied-at-fits capacity n c fits k r ok b = go (isLater (c .fixed .offset) n) refl
+  where
+    each : (a : Applied) → isOffset n ≡ true → Fits capacity (contentsAfter c a) → Fits capacity (contentsAfter c (datedBy n a))
+    each (stays m) h f = fits
+    each (becomes d) h f = dated-fits capacity n d h f
+
+    go : (t : Bool) → isLater (c .fixed .offset) n ≡ t → Fits capacity (contentsAfter c (cond t (datedBy n (apply capacity r c)) (stays 21)))
+    go true e = each (apply capacity r c) (later-offset (c .fixed .offset) n (fits .offset) k e) (applied-fits capacity c fits r ok b)
+    go false e = fits

@@ -1,20 +1,20 @@
 -- A lawful move, and so a list of them, keeps what Apply keeps of contents.
-use mathlib.Core.Path.{_≡_, refl, sym, _∙_}
+use mathlib.Core.Path.{_≡_, refl, sym, ap, _∙_}
 use mathlib.Core.List.{List, [], _∷_, map}
 use mathlib.Core.Bool.{Bool, true, false, cond}
 use Prim.Native.Nat.{ℕ, _+_, _<_}
 use native.Mathlib.Omega.{arith}
 use lib.Dec.{ltb, lit<}
 use borrow.Author.Tests.{ltb-true}
-use Rattle.model.specs.Number.{Bytes, span, half, isNegative}
+use Rattle.model.specs.Number.{Bytes, span, half, isNegative, isOffset}
 use Rattle.model.specs.Run.{Run}
 use Rattle.model.specs.Record.{Rec}
 use Rattle.model.specs.Key.{rank, keyRank, keyOf, topicKey}
 use Rattle.model.specs.Map.{get, remove, keep}
-use Rattle.model.specs.Contents.{Entry, topic, part, plain, key, recordKey, kept, Fixed, Contents}
+use Rattle.model.specs.Contents.{Entry, topic, part, plain, key, recordKey, kept, Fixed, Contents, dated}
 use Rattle.model.specs.Move.{Move, putM, dropM, joinM, leaveM, topicM, partM, directoriesM, deleteM, bumpM, epochM, kraftM}
 use Rattle.model.specs.Move.{clearNamed, clearOldNamed, countOf, setDirectories, apartFrom}
-use Rattle.model.specs.Move.{onReal, onEmpties, bumped, onFixed, move, moves}
+use Rattle.model.specs.Move.{onReal, onEmpties, bumped, onFixed, move, moves, plan, moved}
 use Rattle.model.specs.declared.Kind.{Kind}
 use Rattle.model.specs.declared.Kind.the-variants.{Partition}
 use Rattle.laws.specs.Lists.{All, all-map}
@@ -36,6 +36,7 @@ pub record Holds (c : Contents) : Type 0 where
   pub empties : Empties (c .real) (c .empties)
   pub epoch : c .fixed .epoch < span 8
   pub kraft : c .fixed .kraft < span 2
+  pub offset : isOffset (c .fixed .offset) ≡ true
 
 -- 1. Entries
 
@@ -182,6 +183,21 @@ epoch-move (partM r) h f e = e
 epoch-move (directoriesM k v) h f e = e
 epoch-move (deleteM name) h f e = e
 
+-- no move sets the log offset
+pub offset-move : (m : Move) (f : Fixed) → onFixed m f .offset ≡ f .offset
+unfolding onFixed
+offset-move (putM r) f = refl
+offset-move (dropM k) f = refl
+offset-move (joinM r) f = refl
+offset-move (leaveM r) f = refl
+offset-move (topicM name id factor) f = refl
+offset-move (partM r) f = refl
+offset-move (directoriesM k v) f = refl
+offset-move (deleteM name) f = refl
+offset-move bumpM f = refl
+offset-move (epochM e) f = refl
+offset-move (kraftM v) f = refl
+
 kraft-move : (m : Move) → Lawful m → (f : Fixed) → f .kraft < span 2 → onFixed m f .kraft < span 2
 unfolding onFixed
 kraft-move bumpM h f k = k
@@ -196,7 +212,35 @@ kraft-move (partM r) h f k = k
 kraft-move (directoriesM d v) h f k = k
 kraft-move (deleteM name) h f k = k
 
+-- nor looks at it
+fixed-move : (n : ℕ) (m : Move) (f : Fixed)
+    → onFixed m (record { epoch = f .epoch; kraft = f .kraft; offset = n })
+    ≡ record { epoch = onFixed m f .epoch; kraft = onFixed m f .kraft; offset = n }
+unfolding onFixed
+fixed-move n (putM r) f = refl
+fixed-move n (dropM k) f = refl
+fixed-move n (joinM r) f = refl
+fixed-move n (leaveM r) f = refl
+fixed-move n (topicM name id factor) f = refl
+fixed-move n (partM r) f = refl
+fixed-move n (directoriesM k v) f = refl
+fixed-move n (deleteM name) f = refl
+fixed-move n bumpM f = refl
+fixed-move n (epochM e) f = refl
+fixed-move n (kraftM v) f = refl
+
 -- 5. Contents
+
+moves-dated : (n : ℕ) (ms : List Move) (c : Contents) → moves ms (dated n c) ≡ dated n (moves ms c)
+unfolding moves move
+moves-dated n [] c = refl
+moves-dated n (m ∷ ms) c =
+    ap (λ f. moves ms (record { real = onReal m (c .real); empties = onEmpties m (c .real) (c .empties); fixed = f })) (fixed-move n m (c .fixed))
+    ∙ moves-dated n ms (move m c)
+
+pub moved-dated : (n : ℕ) (r : Rec) (c : Contents) → moved r (dated n c) ≡ dated n (moved r c)
+unfolding moved
+moved-dated n r c = moves-dated n (plan (r .kind) (r .run) (c .real)) c
 
 pub move-holds : (m : Move) → Lawful m → (c : Contents) → Holds c → Holds (move m c)
 unfolding move
@@ -207,6 +251,7 @@ move-holds m h c d = record {
   empties = empties-move m h (c .real) (c .empties) (d .empties);
   epoch = epoch-move m h (c .fixed) (d .epoch);
   kraft = kraft-move m h (c .fixed) (d .kraft);
+  offset = rw (offset-move m (c .fixed)) (d .offset);
 }
 
 pub moves-hold : (ms : List Move) → All Lawful ms → (c : Contents) → Holds c → Holds (moves ms c)

@@ -20,8 +20,8 @@ use Rattle.model.specs.Move.{Move, putM, dropM, directoriesM, filled, assigned,
 use Rattle.model.specs.Move.{runAt, brokerAt, atEpoch, orDone, storedNext, isAbove, changedBroker, replicas, directories, nodeCount, slotOf}
 use Rattle.model.specs.Move.{directoryMoves, sortedQuota, offsetSum, sumBytes, storedOffset, plan}
 use Rattle.model.specs.declared.Kind.{Kind}
-use Rattle.model.specs.declared.Kind.the-variants.{Topic, Partition, BrokerRegistration, DeleteTopic, TopicConfig, BrokerConfig, ClientQuota, ProducerIds, UnregisterBroker, KRaftVersion, FeatureLevel, ClientMetricsConfig, FeaturesEpoch}
-use Rattle.model.specs.declared.Kind.the-variants.{PartitionDirAssignment, PartitionOffsetAdvance, GroupConfig, ControllerRegistration, TopicFreeze, BreakGlassProposal, DeleteBreakGlassProposal, PartitionElr, PartitionRecovery, PartitionUpdate, BrokerRegistrationChange, UnregisterController}
+use Rattle.model.specs.declared.Kind.the-variants.{Topic, Partition, BrokerRegistration, DeleteTopic, TopicConfig, BrokerConfig, ClientQuota, ProducerIds, UnregisterBroker, KRaftVersion, FeatureLevel, ClientMetricsConfig, FeaturesEpoch, PartitionDirAssignment}
+use Rattle.model.specs.declared.Kind.the-variants.{PartitionOffsetAdvance, GroupConfig, ControllerRegistration, TopicFreeze, BreakGlassProposal, DeleteBreakGlassProposal, PartitionElr, PartitionRecovery, PartitionUpdate, BrokerRegistrationChange, UnregisterController, LogOffset}
 use Rattle.laws.specs.Choice.{impossible}
 use Rattle.laws.specs.Lists.{All, all-imp, every-true, all-append}
 use Rattle.laws.specs.Numbers.{number-bound, length-bytes, bytes-are-bytes}
@@ -248,3 +248,4 @@ plan-lawful PartitionUpdate f l ok b u = update-lawful f b ok
 plan-lawful BrokerRegistrationChange f l ok b u = change-lawful f b l u ok
 plan-lawful UnregisterController f l ok b u =
     (single-elsewhere ControllerRegistration refl (nodeKey ControllerRegistration (value 1 f)) refl, tt)
+plan-lawful LogOffset f l ok b u = tt

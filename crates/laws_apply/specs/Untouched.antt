@@ -21,8 +21,8 @@ use Rattle.model.specs.Move.{setOrDrop, joinOrLeave, elrRec, elrMove, recoveryR
 use Rattle.model.specs.Move.{storedNext, isAbove, changedBroker, replicas, directories, nodeCount, slotOf, filled, assigned, directoryMoves}
 use Rattle.model.specs.Move.{sortedQuota, offsetSum, sumBytes, storedOffset, plan, moved}
 use Rattle.model.specs.declared.Kind.{Kind}
-use Rattle.model.specs.declared.Kind.the-variants.{Topic, Partition, BrokerRegistration, DeleteTopic, TopicConfig, BrokerConfig, ClientQuota, ProducerIds, UnregisterBroker, KRaftVersion, FeatureLevel, ClientMetricsConfig, FeaturesEpoch}
-use Rattle.model.specs.declared.Kind.the-variants.{PartitionDirAssignment, PartitionOffsetAdvance, GroupConfig, ControllerRegistration, TopicFreeze, BreakGlassProposal, DeleteBreakGlassProposal, PartitionElr, PartitionRecovery, PartitionUpdate, BrokerRegistrationChange, UnregisterController}
+use Rattle.model.specs.declared.Kind.the-variants.{Topic, Partition, BrokerRegistration, DeleteTopic, TopicConfig, BrokerConfig, ClientQuota, ProducerIds, UnregisterBroker, KRaftVersion, FeatureLevel, ClientMetricsConfig, FeaturesEpoch, PartitionDirAssignment}
+use Rattle.model.specs.declared.Kind.the-variants.{PartitionOffsetAdvance, GroupConfig, ControllerRegistration, TopicFreeze, BreakGlassProposal, DeleteBreakGlassProposal, PartitionElr, PartitionRecovery, PartitionUpdate, BrokerRegistrationChange, UnregisterController, LogOffset}
 use Rattle.laws.specs.Choice.{true-false, or-left, or-right, over}
 use Rattle.laws.specs.Order.{sameBytes-true, sameKeys-true, sameKeys-false, apart-sameKeys}
 use Rattle.laws.specs.Lists.{All, all-append}
@@ -259,6 +259,7 @@ module _ (n : ℕ) (past : rank TopicConfig < n) (no-proposal : rank BreakGlassP
       when-misses (atEpoch (value 2 f) (brokerAt (value 1 f) l)) (putM (rec BrokerRegistration b) ∷ [])
       (put-misses (rec BrokerRegistration b) (λ e. omega arith), tt)
   plan-misses UnregisterController f l h = (drop-misses ControllerRegistration (numberPart (value 1 f) ∷ []) (λ e. omega arith), tt)
+  plan-misses LogOffset f l h = tt
 
   pub moved-other : (r : Rec) (c : Contents) → Asc key (c .real) → (rank (r .kind) ≡ n → ⊥) → get key k (moved r c .real) ≡ get key k (c .real)
   unfolding moved

@@ -133,6 +133,7 @@ module _ (b : Bytes) (areBytes : AreBytes b) (d : ImageHolds b) where
         orderly = d .orderly;
         epoch = number-part 16 24 (omega arith);
         kraft = number-part 24 26 (omega arith);
+        offset = d .head .offset;
         room = d .room;
       }
 

@@ -2,10 +2,10 @@
 use mathlib.Core.Path.{_≡_}
 use mathlib.Core.Bool.{true}
 use Prim.Native.Nat.{ℕ, _≤_, _<_}
-use Rattle.model.specs.Number.{span}
+use Rattle.model.specs.Number.{span, isOffset}
 use Rattle.model.specs.Shape.{stored, fault}
 use Rattle.model.specs.Record.{Rec}
-use Rattle.model.specs.Contents.{Entry, topic, part, plain, kept, Contents, weight, sound}
+use Rattle.model.specs.Contents.{Entry, topic, part, plain, kept, Contents, dated, weight, sound}
 use Rattle.model.specs.Image.{isCapacity}
 use Rattle.laws.specs.Lists.{All}
 use Rattle.laws_records.specs.Runs.{AreFields}
@@ -32,4 +32,19 @@ pub record Fits (capacity : ℕ) (c : Contents) : Type 0 where
   pub orderly : sound c ≡ true
   pub epoch : c .fixed .epoch < span 8
   pub kraft : c .fixed .kraft < span 2
+  pub offset : isOffset (c .fixed .offset) ≡ true
   pub room : weight c ≤ capacity
+
+-- the log offset is no entry, and weighs nothing
+pub dated-fits : (capacity n : ℕ) (c : Contents) → isOffset n ≡ true → Fits capacity c → Fits capacity (dated n c)
+unfolding weight sound
+dated-fits capacity n c h fits = record {
+  within = fits .within;
+  entries = fits .entries;
+  groups = fits .groups;
+  orderly = fits .orderly;
+  epoch = fits .epoch;
+  kraft = fits .kraft;
+  offset = h;
+  room = fits .room;
+}

@@ -31,13 +31,14 @@ module _ (used : ℕ) (f : Fixed) where
       let gap = append-are-bytes (mark ++ length-bytes) (zeros 4) front (zero-bytes 4) in
       let epoch = append-are-bytes (mark ++ length-bytes ++ zeros 4) epoch-bytes gap (bytes-are-bytes 8 (f .epoch)) in
       let kraft = append-are-bytes (mark ++ length-bytes ++ zeros 4 ++ epoch-bytes) kraft-bytes epoch (bytes-are-bytes 2 (f .kraft)) in
-      append-are-bytes (mark ++ length-bytes ++ zeros 4 ++ epoch-bytes ++ kraft-bytes) (zeros 38) kraft (zero-bytes 38)
+      let clear = append-are-bytes (mark ++ length-bytes ++ zeros 4 ++ epoch-bytes ++ kraft-bytes) (zeros 30) kraft (zero-bytes 30) in
+      append-are-bytes (mark ++ length-bytes ++ zeros 4 ++ epoch-bytes ++ kraft-bytes ++ zeros 30) (bytes 8 (f .offset)) clear (bytes-are-bytes 8 (f .offset))
 
   module _ (rest : Bytes) where
     pub used-header : used < span 4 → usedIn (header used f ++ rest) ≡ used
     unfolding header mark
     used-header h = number-bytes 4 used h
 
-    pub fixed-header : f .epoch < span 8 → f .kraft < span 2 → fixedIn (header used f ++ rest) ≡ f
+    pub fixed-header : f .epoch < span 8 → f .kraft < span 2 → f .offset < span 8 → fixedIn (header used f ++ rest) ≡ f
     unfolding header mark
-    fixed-header h k = λ i. record { epoch = number-bytes 8 (f .epoch) h i; kraft = number-bytes 2 (f .kraft) k i }
+    fixed-header h k o = λ i. record { epoch = number-bytes 8 (f .epoch) h i; kraft = number-bytes 2 (f .kraft) k i; offset = number-bytes 8 (f .offset) o i }

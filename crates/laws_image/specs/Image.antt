@@ -7,14 +7,15 @@ use native.Mathlib.Omega.{arith}
 use lib.ListN.{length, take, drop, length-append, length-replicate}
 use lib.Seq.{slice, take-at, drop-at}
 use Rattle.model.specs.Choice.{joined}
-use Rattle.model.specs.Number.{Bytes, AreBytes}
+use Rattle.model.specs.Number.{Bytes, AreBytes, isOffset}
 use Rattle.model.specs.Shape.{stored, fault}
 use Rattle.model.specs.Record.{Rec, recordBytes}
 use Rattle.model.specs.Items.{itemsOf, records, isWhole}
-use Rattle.model.specs.Contents.{kept, Contents, isGroup, isBare}
+use Rattle.model.specs.Contents.{kept, Fixed, Contents, isGroup, isBare}
 use Rattle.model.specs.Image.{headSize, zeros, header, entryBytes, used, imageOf}
 use Rattle.model.specs.Image.{usedIn, fixedIn, itemsIn, entryOf, flagReads, realOf, emptiesOf, contentsOf, isImage}
 use Rattle.laws.specs.Lists.{All, all-imp, all-both, all-append, all-map, map-same, map-map, joined-append, joined-map}
+use Rattle.laws.specs.Offsets.{offset-span}
 use Rattle.laws.specs.Numbers.{append-are-bytes, joined-are-bytes}
 use Rattle.laws_records.specs.Records.{bytes-record}
 use Rattle.laws_records.specs.Items.{AllPass, records-items}
@@ -74,7 +75,7 @@ module _ (capacity : ℕ) (c : Contents) (f : Fits capacity c) where
 
   pub image-fixed : fixedIn (imageOf capacity c) ≡ c .fixed
   image-fixed =
-      ap fixedIn image-parts ∙ fixed-header (used c) (c .fixed) (entryBytes c ++ zeros (capacity - used c)) (f .epoch) (f .kraft)
+      ap fixedIn image-parts ∙ fixed-header (used c) (c .fixed) (entryBytes c ++ zeros (capacity - used c)) (f .epoch) (f .kraft) (offset-span (c .fixed .offset) (f .offset))
 
   length-used : length (header (used c) (c .fixed) ++ entryBytes c) ≡ used c
   length-used =
@@ -149,6 +150,7 @@ module _ (capacity : ℕ) (c : Contents) (f : Fits capacity c) where
         least = rw image-used (omega arith);
         most = rw (image-used, image-length) h;
         clear = ap (λ (n : ℕ). drop n b) image-used ∙ image-clear ∙ sym (λ i. zeros (image-length i - image-used i));
+        offset = ap (λ (x : Fixed). isOffset (x .offset)) image-fixed ∙ f .offset;
       }
 
   flags-read : All (λ r. flagReads r ≡ true) (standing c)

@@ -6,13 +6,17 @@ use native.Mathlib.Omega.{arith}
 use lib.Dec.{lit<}
 use lib.ListN.{length}
 use Rattle.model.specs.Choice.{total}
-use Rattle.model.specs.Number.{Bytes, AreBytes}
+use Rattle.model.specs.Number.{Bytes, AreBytes, isOffset}
 use Rattle.model.specs.Map.{ascending}
 use Rattle.model.specs.Contents.{fresh, weight, namedApart, sound}
 use Rattle.model.specs.Image.{isCapacity, imageOf, contentsOf, isImage, openOf}
 use Rattle.laws_image.specs.Fits.{Fits}
 use Rattle.laws_image.specs.Tests.{capacity-least}
 use Rattle.laws_image.specs.Image.{image-length, image-bytes, image-contents, image-is}
+
+fresh-offset : isOffset (fresh .fixed .offset) ≡ true
+unfolding isOffset
+fresh-offset = refl
 
 fresh-sound : sound fresh ≡ true
 unfolding sound ascending namedApart
@@ -30,6 +34,7 @@ fresh-fits capacity h = record {
   orderly = fresh-sound;
   epoch = lit< tt;
   kraft = lit< tt;
+  offset = fresh-offset;
   room = fresh-weight capacity h;
 }
 

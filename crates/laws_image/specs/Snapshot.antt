@@ -1,5 +1,5 @@
 -- A snapshot is no longer than its image, and its records read back.
-use mathlib.Core.Path.{_≡_, refl, sym, _∙_}
+use mathlib.Core.Path.{_≡_, refl, sym, ap, _∙_}
 use mathlib.Core.List.{List, [], _∷_, map}
 use mathlib.Core.Bool.{Bool, true, false, cond}
 use Prim.Native.Nat.{ℕ, _≤_}
@@ -7,21 +7,24 @@ use native.Mathlib.Omega.{arith}
 use lib.Dec.{eqb, lit<, lit≤}
 use lib.ListN.{length, length-append}
 use Rattle.model.specs.Choice.{joined, total}
-use Rattle.model.specs.Number.{bytes, isNegative}
-use Rattle.model.specs.Run.{done, item, bytesOf}
-use Rattle.model.specs.Shape.{rowsOf, anyRequired, mayFollow, leafFault, runFault, valueFault, logged, shapeOf, fault}
+use Rattle.model.specs.Number.{number, bytes, isNegative, isOffset}
+use Rattle.model.specs.Run.{done, item, bytesOf, value}
+use Rattle.model.specs.Kind.{kindNumber}
+use Rattle.model.specs.Shape.{rowsOf, anyRequired, mayFollow, leafFault, runFault, valueFault, logged, framed, shapeOf, fault}
 use Rattle.model.specs.Record.{Rec, rec, recordBytes}
 use Rattle.model.specs.Items.{itemsOf, records, isWhole}
 use Rattle.model.specs.Contents.{Entry, topic, part, plain, returned, kept, Fixed, Contents}
-use Rattle.model.specs.Image.{headSize}
-use Rattle.model.specs.Snapshot.{epochRecords, kraftRecords, trail, snapshot}
-use Rattle.model.specs.declared.Kind.the-variants.{Topic, Partition, FeaturesEpoch, KRaftVersion}
+use Rattle.model.specs.Snapshot.{offsetRec, isOffsetRec, epochRecords, kraftRecords, trail, body, snapshot}
+use Rattle.model.specs.declared.Kind.the-variants.{Topic, Partition, FeaturesEpoch, KRaftVersion, LogOffset}
 use Rattle.laws.specs.Choice.{impossible}
 use Rattle.laws.specs.Lists.{All, all-imp, all-both, all-append, all-map, joined-append, joined-map, length-joined}
-use Rattle.laws.specs.Numbers.{bytes-are-bytes}
+use Rattle.laws.specs.Numbers.{bytes-are-bytes, number-bytes}
+use Rattle.laws.specs.Offsets.{offset-span}
 use Rattle.laws_records.specs.Runs.{AreFields}
-use Rattle.laws_records.specs.Items.{records-items}
-use Rattle.laws_records.specs.Stored.{fault-stored, fault-topic}
+use Rattle.laws_records.specs.Faults.{fault-value}
+use Rattle.laws_records.specs.Items.{AllPass, records-items}
+use Rattle.laws_records.specs.Stored.{fault-stored, fault-topic, logged-framed}
+use Rattle.laws_image.specs.Kinds.{is-kind}
 use Rattle.laws_image.specs.Fits.{Proper, Fits}
 use Rattle.laws_image.specs.Orderly.{Storable, orderly}
 use Rattle.laws_image.specs.Entries.{not-topic}
@@ -49,7 +52,7 @@ returned-passes (plain r) s p =
     (sym (fault-stored (r .kind) (not-topic (r .kind) (r .run) s) (r .run)) ∙ p .readable .passes, p .readable .fields)
 
 epoch-passes : (e : ℕ) → All Loggable (epochRecords e)
-unfolding epochRecords rowsOf shapeOf anyRequired mayFollow leafFault runFault valueFault
+unfolding epochRecords kindNumber rowsOf shapeOf anyRequired mayFollow leafFault runFault valueFault
 epoch-passes e = go (isNegative 8 e)
   where
     go : (b : Bool) → All Loggable (cond b [] (rec FeaturesEpoch (item 1 (bytes 8 e) done) ∷ []))
@@ -57,7 +60,7 @@ epoch-passes e = go (isNegative 8 e)
     go false = ((refl, (lit< tt, bytes-are-bytes 8 e, tt)), tt)
 
 kraft-passes : (v : ℕ) → All Loggable (kraftRecords v)
-unfolding kraftRecords rowsOf shapeOf anyRequired mayFollow leafFault runFault valueFault
+unfolding kraftRecords kindNumber rowsOf shapeOf anyRequired mayFollow leafFault runFault valueFault
 kraft-passes v = go (eqb v 0)
   where
     go : (b : Bool) → All Loggable (cond b [] (rec KRaftVersion (item 1 (bytes 2 v) done) ∷ []))
@@ -93,16 +96,32 @@ kraft-length v = go (eqb v 0)
     go true = lit≤ tt
     go false = lit≤ tt
 
--- the fixed parts' records are no longer than the header
-trail-length : (f : Fixed) → length (joined recordBytes (trail f)) ≤ headSize
+-- kind 26
+pub offset-passes : (n : ℕ) → isOffset n ≡ true → fault framed LogOffset (item 1 (bytes 8 n) done) ≡ 0
+unfolding rowsOf shapeOf anyRequired mayFollow leafFault runFault valueFault
+offset-passes n h = rw (number-bytes 8 n (offset-span n h), h) refl
+
+-- what it holds is an offset
+pub offset-held : (r : Rec) → isOffsetRec r ≡ true → fault framed (r .kind) (r .run) ≡ 0 → isOffset (number (value 1 (r .run))) ≡ true
+unfolding rowsOf shapeOf kindNumber
+offset-held r is ok =
+    let k = is-kind (r .kind) LogOffset is in
+    fault-value framed LogOffset (r .run) (ap (λ x. fault framed x (r .run)) (sym k) ∙ ok) 1 refl refl .1
+
+offset-length : (n : ℕ) → length (recordBytes (offsetRec n)) ≡ 14
+unfolding recordBytes bytesOf
+offset-length n = refl
+
+-- the records after the entries' are 22 bytes long at most: with kind 26 no longer than the header
+trail-length : (f : Fixed) → length (joined recordBytes (trail f)) ≤ 22
 trail-length f =
     rw (joined-append recordBytes (epochRecords (f .epoch)) (kraftRecords (f .kraft)), length-append)
     (omega (arith, epoch-length (f .epoch), kraft-length (f .kraft)))
 
 module _ (capacity : ℕ) (c : Contents) (f : Fits capacity c) where
-  pub snapshot-passes : All Loggable (snapshot c)
-  unfolding snapshot
-  snapshot-passes =
+  pub body-passes : All Loggable (body c)
+  unfolding body
+  body-passes =
       let epoch = c .fixed .epoch in
       let kraft = c .fixed .kraft in
       let both = all-both Storable Proper (c .real) (orderly c (f .orderly) .storables) (f .entries) in
@@ -111,9 +130,11 @@ module _ (capacity : ℕ) (c : Contents) (f : Fits capacity c) where
       all-append Loggable (map returned (c .real)) (trail (c .fixed)) entries last
 
   pub snapshot-fits : length (joined recordBytes (snapshot c)) ≤ capacity
-  unfolding snapshot
+  unfolding snapshot body
   snapshot-fits =
       rw (
+        length-append,
+        offset-length (c .fixed .offset),
         joined-append recordBytes (map returned (c .real)) (trail (c .fixed)),
         length-append,
         joined-map recordBytes returned (c .real),
@@ -122,8 +143,12 @@ module _ (capacity : ℕ) (c : Contents) (f : Fits capacity c) where
       (omega (arith, returned-total (c .real), trail-length (c .fixed), length-entries c, used-fits capacity c f))
 
   -- its bytes are read back as its records
-  pub snapshot-back : (records (itemsOf logged (joined recordBytes (snapshot c))) ≡ snapshot c)
-      × (isWhole (itemsOf logged (joined recordBytes (snapshot c))) ≡ true)
-  snapshot-back =
-      records-items logged (snapshot c)
-      (all-imp Loggable (λ r. fault logged (r .kind) (r .run) ≡ 0) (λ r p. p .0) (snapshot c) snapshot-passes)
+  pub snapshot-passes : AllPass framed (snapshot c)
+  unfolding snapshot
+  snapshot-passes =
+      let later = all-imp Loggable (λ r. fault framed (r .kind) (r .run) ≡ 0) (λ r p. logged-framed (r .kind) (r .run) (p .0)) (body c) body-passes in
+      (offset-passes (c .fixed .offset) (f .offset), later)
+
+  pub snapshot-back : (records (itemsOf framed (joined recordBytes (snapshot c))) ≡ snapshot c)
+      × (isWhole (itemsOf framed (joined recordBytes (snapshot c))) ≡ true)
+  snapshot-back = records-items framed (snapshot c) snapshot-passes

@@ -7,7 +7,7 @@ use lib.Dec.{leb, eqb}
 use lib.ListN.{length, take, drop, length-drop}
 use borrow.Author.Tests.{leb-true, le-leb, eqb-true}
 use Rattle.model.specs.Choice.{every}
-use Rattle.model.specs.Number.{Bytes}
+use Rattle.model.specs.Number.{Bytes, isOffset}
 use Rattle.model.specs.Order.{sameBytes}
 use Rattle.model.specs.Items.{records, isWhole}
 use Rattle.model.specs.Contents.{weight, sound}
@@ -34,6 +34,7 @@ pub record HeaderHolds (b : Bytes) : Type 0 where
   pub least : headSize ≤ usedIn b
   pub most : usedIn b ≤ length b
   pub clear : drop (usedIn b) b ≡ zeros (length b - usedIn b)
+  pub offset : isOffset (fixedIn b .offset) ≡ true
 
 zeros-all : (s : Bytes) → All (λ x. eqb x 0 ≡ true) s → s ≡ zeros (length s)
 zeros-all [] u = refl
@@ -49,14 +50,17 @@ header-holds b h =
     let low = leb headSize (usedIn b) in
     let high = leb (usedIn b) (length b) in
     let empty = every (λ x. eqb x 0) (drop (usedIn b) b) in
-    let three = and-left (same && low && high) empty h in
+    let dated = isOffset (fixedIn b .offset) in
+    let four = and-left (same && low && high && empty) dated h in
+    let three = and-left (same && low && high) empty four in
     let two = and-left (same && low) high three in
-    let rest = zeros-all (drop (usedIn b) b) (every-true (λ x. eqb x 0) (drop (usedIn b) b) (and-right (same && low && high) empty h)) in
+    let rest = zeros-all (drop (usedIn b) b) (every-true (λ x. eqb x 0) (drop (usedIn b) b) (and-right (same && low && high) empty four)) in
     record {
       front = sameBytes-true (take headSize b) (header (usedIn b) (fixedIn b)) (and-left same low two);
       least = leb-true headSize (usedIn b) (and-right same low two);
       most = leb-true (usedIn b) (length b) (and-right (same && low) high three);
       clear = rest ∙ ap zeros (length-drop (usedIn b) b);
+      offset = and-right (same && low && high && empty) dated h;
     }
 
 same-bytes : (s t : Bytes) → s ≡ t → sameBytes s t ≡ true
@@ -70,11 +74,11 @@ holds-header b d =
     let high = leb (usedIn b) (length b) in
     let empty = every (λ x. eqb x 0) (drop (usedIn b) b) in
     let zero-rest = ap (every (λ x. eqb x 0)) (d .clear) ∙ every-zero (length b - usedIn b) in
-    and-both (same && low && high) empty
+    and-both (same && low && high && empty) (isOffset (fixedIn b .offset)) (and-both (same && low && high) empty
     (and-both (same && low) high
     (and-both same low (same-bytes (take headSize b) (header (usedIn b) (fixedIn b)) (d .front)) (le-leb headSize (usedIn b) (d .least)))
     (le-leb (usedIn b) (length b) (d .most)))
-    zero-rest
+    zero-rest) (d .offset)
 
 -- 3. The whole
 

@@ -10,7 +10,7 @@ use Rattle.model.specs.Number.{Bytes}
 use Rattle.model.specs.Run.{Run, runOf, value}
 use Rattle.model.specs.Nodes.{nodesOf, noRepeats}
 use Rattle.model.specs.Kind.{kindNumber}
-use Rattle.model.specs.Shape.{listLimit, nodeSet, rowsOf, Source, logged, stored, shapeOf, fault}
+use Rattle.model.specs.Shape.{listLimit, nodeSet, rowsOf, Source, logged, framed, stored, shapeOf, fault}
 use Rattle.model.specs.Record.{Rec, got, read, apartBy, replicasApart, beginsApart}
 use Rattle.model.specs.declared.Kind.the-variants.{Partition, PartitionUpdate}
 use Rattle.laws.specs.Choice.{impossible}
@@ -23,11 +23,13 @@ use Rattle.laws_records.specs.Records.{reads, head-of}
 partition-apart : (source : Source) (run : Run) → fault source Partition run ≡ 0 → noRepeats (nodesOf (value 4 run)) ≡ true
 unfolding rowsOf shapeOf kindNumber
 partition-apart logged run ok = fault-value logged Partition run ok 4 refl refl .2
+partition-apart framed run ok = fault-value framed Partition run ok 4 refl refl .2
 partition-apart stored run ok = fault-value stored Partition run ok 4 refl refl .2
 
 update-apart : (source : Source) (run : Run) → fault source PartitionUpdate run ≡ 0 → noRepeats (nodesOf (value 4 (runOf (value 1 run)))) ≡ true
 unfolding rowsOf shapeOf kindNumber
 update-apart logged run ok = leaf-fits none (nodeSet listLimit) _ (value-passes (fault-value logged PartitionUpdate run ok 1 refl refl) 4 refl refl) .2
+update-apart framed run ok = leaf-fits none (nodeSet listLimit) _ (value-passes (fault-value framed PartitionUpdate run ok 1 refl refl) 4 refl refl) .2
 update-apart stored run ok = leaf-fits none (nodeSet listLimit) _ (value-passes (fault-value stored PartitionUpdate run ok 1 refl refl) 4 refl refl) .2
 
 module _ (source : Source) (r : Rec) (ok : fault source (r .kind) (r .run) ≡ 0) where

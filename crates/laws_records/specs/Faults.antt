@@ -7,10 +7,11 @@ use Prim.Native.Nat.{ℕ, _≤_}
 use native.Mathlib.Omega.{arith}
 use lib.ListN.{length}
 use Rattle.model.specs.Choice.{given}
+use Rattle.laws.specs.Choice.{orThen-left, orThen-right}
 use Rattle.model.specs.Number.{Bytes}
 use Rattle.model.specs.Run.{Run, bytesOf, field, value, values, setField, dropField, items}
 use Rattle.model.specs.declared.Kind.{Kind}
-use Rattle.model.specs.Shape.{Row, rowsOf, rowAt, isRequired, repeats, valueFault, Source, shapeOf, fault}
+use Rattle.model.specs.Shape.{Row, rowsOf, rowAt, isRequired, repeats, valueFault, Source, shapeOf, unknown, start, runFault, fault}
 use Rattle.laws_records.specs.Runs.{Whole, Short, short-bytes}
 use Rattle.laws_records.specs.Fields.{Ascending, set-field}
 use Rattle.laws_records.specs.Passing.{Elements, Passing, passing, passes}
@@ -19,8 +20,15 @@ use Rattle.laws_records.specs.Forms.{ValueFits, value-fits, fits-value}
 use Rattle.laws_records.specs.Lengths.{longestBody, longest-shape, fields-length}
 
 module _ (source : Source) (kind : Kind) (run : Run) (ok : fault source kind run ≡ 0) where
+  -- its source knows the kind, and its fields pass
+  pub fault-known : unknown source kind ≡ 0
+  fault-known = orThen-left (unknown source kind) (runFault valueFault (rowsOf (shapeOf source kind)) start run) ok
+
+  pub fault-run : runFault valueFault (rowsOf (shapeOf source kind)) start run ≡ 0
+  fault-run = orThen-right (unknown source kind) (runFault valueFault (rowsOf (shapeOf source kind)) start run) ok
+
   pub fault-passing : Passing valueFault (rowsOf (shapeOf source kind)) run
-  fault-passing = passing valueFault (rowsOf (shapeOf source kind)) run ok
+  fault-passing = passing valueFault (rowsOf (shapeOf source kind)) run fault-run
 
   pub fault-whole : Whole run
   fault-whole = fault-passing .whole
@@ -30,7 +38,7 @@ module _ (source : Source) (kind : Kind) (run : Run) (ok : fault source kind run
 
   -- its fields fit a length of two bytes, and so does each value
   pub fault-length : length (bytesOf run) ≤ longestBody
-  fault-length = omega (arith, fields-length (rowsOf (shapeOf source kind)) run ok, longest-shape source kind)
+  fault-length = omega (arith, fields-length (rowsOf (shapeOf source kind)) run fault-run, longest-shape source kind)
 
   pub fault-short : Short run
   fault-short = short-bytes run (omega (arith, fault-length))
@@ -61,12 +69,12 @@ module _ (source : Source) (kind : Kind) (run : Run) (ok : fault source kind run
         → fault source kind (setField tag w run) ≡ 0
     set-fault w q h =
         let p = set-passes fault-passing tag found w q (fits-value none (row .form) w h) in
-        passes valueFault (rowsOf (shapeOf source kind)) (setField tag w run) p
+        rw fault-known (passes valueFault (rowsOf (shapeOf source kind)) (setField tag w run) p)
 
     pub drop-fault : isRequired (row .presence) ≡ false → fault source kind (dropField tag run) ≡ 0
-    drop-fault q = passes valueFault (rowsOf (shapeOf source kind)) (dropField tag run) (drop-passes fault-passing tag found q)
+    drop-fault q = rw fault-known (passes valueFault (rowsOf (shapeOf source kind)) (dropField tag run) (drop-passes fault-passing tag found q))
 
     pub items-fault : (vs : List Bytes) → Ascending tag (dropField tag run) → Elements valueFault row 0 none vs
         → fault source kind (items tag vs (dropField tag run)) ≡ 0
     items-fault vs s e =
-        passes valueFault (rowsOf (shapeOf source kind)) (items tag vs (dropField tag run)) (items-passes fault-passing tag found vs s e)
+        rw fault-known (passes valueFault (rowsOf (shapeOf source kind)) (items tag vs (dropField tag run)) (items-passes fault-passing tag found vs s e))

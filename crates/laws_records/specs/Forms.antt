@@ -1,7 +1,7 @@
 -- What a value that passes its form is.
 use mathlib.Core.Path.{_≡_, refl}
 use mathlib.Core.List.{List, [], _∷_}
-use mathlib.Core.Bool.{Bool, true, false}
+use mathlib.Core.Bool.{Bool, true, false, _&&_}
 use mathlib.Core.Option.{Option, some}
 use Prim.Native.Nat.{ℕ, zero, suc, _/_, _%_, _≤_, _<_}
 use native.Mathlib.Omega.{arith}
@@ -9,11 +9,11 @@ use borrow.Author.Tests.{eqb-true, leb-true, ltb-true, eq-eqb, le-leb, lt-ltb}
 use lib.Dec.{leb, eqb}
 use lib.ListN.{length, getElem?}
 use Rattle.model.specs.Choice.{orThen, unless, every}
-use Rattle.model.specs.Number.{Bytes}
+use Rattle.model.specs.Number.{Bytes, number, isOffset}
 use Rattle.model.specs.Text.{isText}
 use Rattle.model.specs.Run.{runOf}
 use Rattle.model.specs.Nodes.{nodesFrom, noRepeats}
-use Rattle.model.specs.Shape.{Shape, Form, fixed, below, text, mapKey, raw, list, nodeSet, nested, Row, rowsOf, start, ascends, isBelowByte, leafFault, valueFault}
+use Rattle.model.specs.Shape.{Shape, Form, fixed, below, offset, text, mapKey, raw, list, nodeSet, nested, Row, rowsOf, start, ascends, isBelowByte, leafFault, valueFault}
 use Rattle.laws.specs.Choice.{impossible, and-left, and-right, orThen-left, orThen-right, unless-true}
 use Rattle.laws_records.specs.Passing.{Check, run-same, Passing, passing, passes}
 
@@ -31,6 +31,7 @@ pub record OneBelow (bound : ℕ) (v : Bytes) : Type 0 where
 abbrev pub Fits : (Shape → Bytes → Type 0) → Option Bytes → Form → Bytes → Type 0
 Fits run prior (fixed width) v = length v ≡ width
 Fits run prior (below bound) v = OneBelow bound v
+Fits run prior offset v = (length v ≡ 8) × (isOffset (number v) ≡ true)
 Fits run prior (text limit) v = (isText v ≡ true) × (length v ≤ limit)
 Fits run prior (mapKey limit) v = (isText v ≡ true) × (ascends prior v ≡ true) × (length v ≤ limit)
 Fits run prior (raw limit) v = length v ≤ limit
@@ -65,6 +66,10 @@ pub leaf-fits : (prior : Option Bytes) (form : Form) (v : Bytes) → leafFault p
 unfolding leafFault
 leaf-fits prior (fixed width) v e = eqb-true (length v) width (passed (eqb (length v) width) 3 e)
 leaf-fits prior (below bound) v e = one-below bound v (passed (isBelowByte bound v) 3 e)
+leaf-fits prior offset v e =
+    let a = eqb (length v) 8 in
+    let h = passed (a && isOffset (number v)) 3 e in
+    (eqb-true (length v) 8 (and-left a (isOffset (number v)) h), and-right a (isOffset (number v)) h)
 leaf-fits prior (text limit) v e =
     let a = unless (isText v) 4 in
     let b = unless (leb (length v) limit) 5 in
@@ -96,6 +101,7 @@ pub fits-leaf : (prior : Option Bytes) (form : Form) (v : Bytes) → LeafFits pr
 unfolding leafFault
 fits-leaf prior (fixed width) v h = rw (eq-eqb (length v) width h)
 fits-leaf prior (below bound) v h = rw (below-one bound v h)
+fits-leaf prior offset v h = rw (eq-eqb (length v) 8 (h .0), h .1)
 fits-leaf prior (text limit) v h = rw (h .0, le-leb (length v) limit (h .1))
 fits-leaf prior (mapKey limit) v h = rw (h .0, h .1, le-leb (length v) limit (h .2))
 fits-leaf prior (raw limit) v h = rw (le-leb (length v) limit h)
@@ -107,6 +113,7 @@ pub value-fits : (prior : Option Bytes) (form : Form) (v : Bytes) → valueFault
 unfolding valueFault
 value-fits prior (fixed width) v e = leaf-fits prior (fixed width) v e
 value-fits prior (below bound) v e = leaf-fits prior (below bound) v e
+value-fits prior offset v e = leaf-fits prior offset v e
 value-fits prior (text limit) v e = leaf-fits prior (text limit) v e
 value-fits prior (mapKey limit) v e = leaf-fits prior (mapKey limit) v e
 value-fits prior (raw limit) v e = leaf-fits prior (raw limit) v e
@@ -118,6 +125,7 @@ pub fits-value : (prior : Option Bytes) (form : Form) (v : Bytes) → ValueFits 
 unfolding valueFault
 fits-value prior (fixed width) v h = fits-leaf prior (fixed width) v h
 fits-value prior (below bound) v h = fits-leaf prior (below bound) v h
+fits-value prior offset v h = fits-leaf prior offset v h
 fits-value prior (text limit) v h = fits-leaf prior (text limit) v h
 fits-value prior (mapKey limit) v h = fits-leaf prior (mapKey limit) v h
 fits-value prior (raw limit) v h = fits-leaf prior (raw limit) v h
@@ -129,6 +137,7 @@ fits-value prior (nested s) v h = passes (leafCheck prior) (rowsOf s) (runOf v) 
 abbrev pub isKeyless : Form → Bool
 isKeyless (fixed width) = true
 isKeyless (below bound) = true
+isKeyless offset = true
 isKeyless (text limit) = true
 isKeyless (mapKey limit) = false
 isKeyless (raw limit) = true
@@ -140,6 +149,7 @@ pub leaf-keyless : (k l : Option Bytes) (form : Form) (v : Bytes) → isKeyless 
 unfolding leafFault
 leaf-keyless k l (fixed width) v h = refl
 leaf-keyless k l (below bound) v h = refl
+leaf-keyless k l offset v h = refl
 leaf-keyless k l (text limit) v h = refl
 leaf-keyless k l (mapKey limit) v h = impossible cc
 leaf-keyless k l (raw limit) v h = refl

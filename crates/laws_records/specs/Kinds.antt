@@ -8,8 +8,8 @@ use native.Mathlib.Omega.{arith}
 use lib.ListN.{getElem?}
 use Rattle.model.specs.Kind.{kinds, kindOf, kindNumber}
 use Rattle.model.specs.declared.Kind.{Kind}
-use Rattle.model.specs.declared.Kind.the-variants.{Topic, Partition, BrokerRegistration, DeleteTopic, TopicConfig, BrokerConfig, ClientQuota, ProducerIds, UnregisterBroker, KRaftVersion, FeatureLevel, ClientMetricsConfig, FeaturesEpoch}
-use Rattle.model.specs.declared.Kind.the-variants.{PartitionDirAssignment, PartitionOffsetAdvance, GroupConfig, ControllerRegistration, TopicFreeze, BreakGlassProposal, DeleteBreakGlassProposal, PartitionElr, PartitionRecovery, PartitionUpdate, BrokerRegistrationChange, UnregisterController}
+use Rattle.model.specs.declared.Kind.the-variants.{Topic, Partition, BrokerRegistration, DeleteTopic, TopicConfig, BrokerConfig, ClientQuota, ProducerIds, UnregisterBroker, KRaftVersion, FeatureLevel, ClientMetricsConfig, FeaturesEpoch, PartitionDirAssignment}
+use Rattle.model.specs.declared.Kind.the-variants.{PartitionOffsetAdvance, GroupConfig, ControllerRegistration, TopicFreeze, BreakGlassProposal, DeleteBreakGlassProposal, PartitionElr, PartitionRecovery, PartitionUpdate, BrokerRegistrationChange, UnregisterController, LogOffset}
 use Rattle.laws.specs.Choice.{impossible}
 use Rattle.laws.specs.Lists.{getElem?-some}
 
@@ -40,6 +40,7 @@ kind-number PartitionRecovery = refl
 kind-number PartitionUpdate = refl
 kind-number BrokerRegistrationChange = refl
 kind-number UnregisterController = refl
+kind-number LogOffset = refl
 
 -- kinds numbered from one on
 abbrev Numbered : ℕ → List Kind → Type 0
@@ -79,7 +80,7 @@ kinds-numbered = (
                         refl,
                         (
                           refl,
-                          (refl, (refl, (refl, (refl, (refl, (refl, (refl, (refl, (refl, (refl, (refl, (refl, tt)))))))))))),
+                          (refl, (refl, (refl, (refl, (refl, (refl, (refl, (refl, (refl, (refl, (refl, (refl, (refl, tt))))))))))))),
                         ),
                       ),
                     ),
@@ -105,11 +106,11 @@ number-kind (suc n) k e =
 pub number-injective : (a b : Kind) → kindNumber a ≡ kindNumber b → a ≡ b
 number-injective a b e = let f : some a ≡ some b = sym (kind-number a) ∙ ap kindOf e ∙ kind-number b in cc
 
--- there are 25, from 1 on
-kind-range : (n : ℕ) (k : Kind) → kindOf n ≡ some k → (0 < n) × (n ≤ 25)
+-- there are 26, from 1 on
+kind-range : (n : ℕ) (k : Kind) → kindOf n ≡ some k → (0 < n) × (n ≤ 26)
 unfolding kindOf
 kind-range zero k e = impossible cc
 kind-range (suc n) k e = let h = getElem?-some kinds n k e in (omega arith, omega arith)
 
-pub number-range : (k : Kind) → (0 < kindNumber k) × (kindNumber k ≤ 25)
+pub number-range : (k : Kind) → (0 < kindNumber k) × (kindNumber k ≤ 26)
 number-range k = kind-range (kindNumber k) k (kind-number k)

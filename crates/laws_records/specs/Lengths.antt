@@ -12,10 +12,10 @@ use Rattle.model.specs.Choice.{given}
 use Rattle.model.specs.Number.{Bytes}
 use Rattle.model.specs.Run.{Run, done, torn, item, runOf, bytesOf}
 use Rattle.model.specs.Kind.{kindNumber}
-use Rattle.model.specs.Shape.{Shape, recordOf, storedTopic, Form, fixed, below, text, mapKey, raw, list, nodeSet, nested, Row, rowsOf, rowAt, Before, start, countBefore, keyBefore, after, runFault, leafFault, valueFault, Source, logged, stored, shapeOf}
+use Rattle.model.specs.Shape.{Shape, recordOf, storedTopic, Form, fixed, below, offset, text, mapKey, raw, list, nodeSet, nested, Row, rowsOf, rowAt, Before, start, countBefore, keyBefore, after, runFault, leafFault, valueFault, Source, logged, stored, framed, shapeOf}
 use Rattle.model.specs.declared.Kind.{Kind}
-use Rattle.model.specs.declared.Kind.the-variants.{Topic, Partition, BrokerRegistration, DeleteTopic, TopicConfig, BrokerConfig, ClientQuota, ProducerIds, UnregisterBroker, KRaftVersion, FeatureLevel, ClientMetricsConfig, FeaturesEpoch}
-use Rattle.model.specs.declared.Kind.the-variants.{PartitionDirAssignment, PartitionOffsetAdvance, GroupConfig, ControllerRegistration, TopicFreeze, BreakGlassProposal, DeleteBreakGlassProposal, PartitionElr, PartitionRecovery, PartitionUpdate, BrokerRegistrationChange, UnregisterController}
+use Rattle.model.specs.declared.Kind.the-variants.{Topic, Partition, BrokerRegistration, DeleteTopic, TopicConfig, BrokerConfig, ClientQuota, ProducerIds, UnregisterBroker, KRaftVersion, FeatureLevel, ClientMetricsConfig, FeaturesEpoch, PartitionDirAssignment}
+use Rattle.model.specs.declared.Kind.the-variants.{PartitionOffsetAdvance, GroupConfig, ControllerRegistration, TopicFreeze, BreakGlassProposal, DeleteBreakGlassProposal, PartitionElr, PartitionRecovery, PartitionUpdate, BrokerRegistrationChange, UnregisterController, LogOffset}
 use Rattle.laws.specs.Choice.{impossible}
 use Rattle.laws_records.specs.Rows.{times, Follow, later, again}
 use Rattle.laws_records.specs.Runs.{length-run, length-item}
@@ -26,6 +26,7 @@ use Rattle.laws_records.specs.Forms.{leafCheck, Fits, leaf-fits, value-f
 abbrev pub mostWith : (Shape → ℕ) → Form → ℕ
 mostWith run (fixed width) = width
 mostWith run (below bound) = 1
+mostWith run offset = 8
 mostWith run (text limit) = limit
 mostWith run (mapKey limit) = limit
 mostWith run (raw limit) = limit
@@ -61,6 +62,7 @@ fits-most : (run : Shape → Bytes → Type 0) (size : Shape → ℕ) → ((s : 
     → (prior : Option Bytes) (form : Form) (v : Bytes) → Fits run prior form v → length v ≤ mostWith size form
 fits-most run size h prior (fixed width) v f = omega arith
 fits-most run size h prior (below bound) v f = let e = ap (length {A = ℕ}) (f .only) in omega arith
+fits-most run size h prior offset v f = omega (arith, f .0)
 fits-most run size h prior (text limit) v f = f .1
 fits-most run size h prior (mapKey limit) v f = f .2
 fits-most run size h prior (raw limit) v f = f
@@ -177,6 +179,7 @@ longest-kind PartitionRecovery = lit≤ tt
 longest-kind PartitionUpdate = lit≤ tt
 longest-kind BrokerRegistrationChange = lit≤ tt
 longest-kind UnregisterController = lit≤ tt
+longest-kind LogOffset = lit≤ tt
 
 longest-topic : longest (rowsOf storedTopic) ≤ longestBody
 unfolding rowsOf
@@ -190,6 +193,7 @@ longest-config = refl
 pub longest-shape : (source : Source) (kind : Kind) → longest (rowsOf (shapeOf source kind)) ≤ longestBody
 unfolding shapeOf
 longest-shape logged kind = longest-kind kind
+longest-shape framed kind = longest-kind kind
 longest-shape stored kind = go (eqb (kindNumber kind) 1)
   where
     go : (b : Bool) → longest (rowsOf (cond b storedTopic (recordOf kind))) ≤ longestBody

@@ -7,7 +7,7 @@
 --   its fields, and changes after which it passes ......... Passes; of a value: Forms.value-fits; of a record: Faults
 --   how long what passes can be ........................... Lengths.longest-shape, Faults.fault-length
 --   kinds and their numbers ............................... Kinds.kind-number, Kinds.number-kind
---   Read and a record's bytes ............................. Records.read-record, Records.reads; stored and logged: Stored
+--   Read and a record's bytes ............................. Records.read-record, Records.reads; by where it stands: Stored
 --   no replica list that is read has a repeat ............. Apart.read-apart
 --   Read and Write undo each other ........................ Writes.write-read, Writes.read-back; outputs: Emits
 --   records back to back .................................. Items.items-records, Items.spells-items

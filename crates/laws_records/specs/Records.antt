@@ -219,3 +219,29 @@ fields-read source (k ∷ h ∷ []) r n p e = impossible cc
 fields-read source (k ∷ h ∷ l ∷ s) r n p e =
     let d = head-of source k h l s r n e in
     rw (d .spelt) at (fields-run (take (h * 256 + l) s) (take-are-bytes (h * 256 + l) s (p .1 .1 .1)))
+
+-- a refusal's number is not 0
+pub read-nonzero : (source : Source) (s : Bytes) (n : ℕ) → read source s ≡ bad n → n ≡ 0 → ⊥
+unfolding read
+read-nonzero source [] n e z = impossible cc
+read-nonzero source (k ∷ []) n e z = impossible cc
+read-nonzero source (k ∷ h ∷ []) n e z = impossible cc
+read-nonzero source (k ∷ h ∷ l ∷ s) n e z = go (ltb (length s) (h * 256 + l)) e
+  where
+    run : Run
+    run = runOf (take (h * 256 + l) s)
+
+    used : ℕ
+    used = 3 + (h * 256 + l)
+
+    by-fault : (f : ℕ) (r : Rec) → whole f r used ≡ bad n → ⊥
+    by-fault zero r q = impossible cc
+    by-fault (suc m) r q = let same : suc m ≡ n = cc in omega arith
+
+    by-kind : (o : Option Kind) → given o (bad 3) (λ kind. whole (fault source kind run) (rec kind run) used) ≡ bad n → ⊥
+    by-kind none q = impossible cc
+    by-kind (some kind) q = by-fault (fault source kind run) (rec kind run) q
+
+    go : (b : Bool) → cond b (bad 2) (given (kindOf k) (bad 3) (λ kind. whole (fault source kind run) (rec kind run) used)) ≡ bad n → ⊥
+    go true q = impossible cc
+    go false q = by-kind (kindOf k) q

@@ -3,14 +3,16 @@ use mathlib.Core.Path.{_≡_, refl, sym, _∙_}
 use mathlib.Core.Bool.{Bool, true, false}
 use Prim.Native.Nat.{ℕ}
 use borrow.Author.Tests.{ne-eqb}
+use lib.Dec.{eqb}
 use Rattle.model.specs.Number.{Bytes}
 use Rattle.model.specs.Run.{Run, done, item}
 use Rattle.model.specs.Kind.{kindNumber}
 use Rattle.model.specs.declared.Kind.{Kind}
 use Rattle.model.specs.declared.Kind.the-variants.{Topic}
-use Rattle.model.specs.Shape.{rowsOf, anyRequired, mayFollow, leafFault, runFault, valueFault, logged, stored, shapeOf, fault}
+use Rattle.model.specs.Shape.{rowsOf, anyRequired, mayFollow, leafFault, runFault, valueFault, logged, stored, framed, shapeOf, fault}
 use Rattle.model.specs.Contents.{topicRun, flagBytes}
 use Rattle.laws_records.specs.Kinds.{number-injective}
+use Rattle.laws_records.specs.Faults.{fault-run}
 
 module _ (kind : Kind) (apart : kind ≡ Topic → ⊥) where
   pub shape-stored : shapeOf stored kind ≡ shapeOf logged kind
@@ -35,3 +37,12 @@ topic-passes name id count factor c f named b = fault-topic name id c f b ∙ sa
   where
     same : fault logged Topic (topicRun name id c f done) ≡ fault logged Topic (topicRun name id count factor done)
     same = unfold rowsOf shapeOf anyRequired mayFollow leafFault valueFault runFault in refl
+
+-- what is logged reads by itself and in a snapshot too; the other way round but for kind 26
+pub logged-framed : (kind : Kind) (run : Run) → fault logged kind run ≡ 0 → fault framed kind run ≡ 0
+unfolding shapeOf
+logged-framed kind run ok = fault-run logged kind run ok
+
+pub framed-logged : (kind : Kind) (run : Run) → eqb (kindNumber kind) 26 ≡ false → fault framed kind run ≡ fault logged kind run
+unfolding shapeOf
+framed-logged kind run h = rw h refl

@@ -10,7 +10,7 @@ use lib.ListN.{length, take, drop, length-append, take-append-drop}
 use lib.Seq.{take-append-seam, drop-append-seam, take-at, length-take-le}
 use Rattle.model.specs.Number.{Bytes, AreBytes}
 use Rattle.model.specs.Run.{Run, done, torn, item, tagsOf, lengthsOf, valuesOf}
-use Rattle.model.specs.Shape.{logged, fault}
+use Rattle.model.specs.Shape.{framed, fault}
 use Rattle.model.specs.Reply.{Reply, accepted, refused, Ended}
 use Rattle.model.specs.Record.{Rec, rec, recordBytes, Got, bad, got, read, onGot, readOf, gathered, writing, writeOf}
 use Rattle.model.specs.declared.Kind.{Kind}
@@ -62,10 +62,10 @@ fields-gathered (t ∷ ts) (n ∷ ns) s w = go (leb n (length s)) refl w (fields
 
 -- what an accepted Write tells
 pub record Writes (r : Rec) (out : Bytes) (w : Ended) (n : ℕ) : Type 0 where
-  pub passes : fault logged (r .kind) (r .run) ≡ 0
+  pub passes : fault framed (r .kind) (r .run) ≡ 0
   pub wrote : Emits (recordBytes r) out w n
 
-writing-writes : (f : ℕ) (r : Rec) (out : Bytes) (n : ℕ) → fault logged (r .kind) (r .run) ≡ f → writing f r out .reply ≡ accepted (n ∷ [])
+writing-writes : (f : ℕ) (r : Rec) (out : Bytes) (n : ℕ) → fault framed (r .kind) (r .run) ≡ f → writing f r out .reply ≡ accepted (n ∷ [])
     → Writes r out (writing f r out) n
 writing-writes zero r out n f e = record { passes = f; wrote = emits (recordBytes r) out n e }
 writing-writes (suc m) r out n f e = absurd (not-refused m (n ∷ []) e)
@@ -74,24 +74,24 @@ module _ (kind : Kind) (tags : Bytes) (lengths : List ℕ) (vals out : Bytes) wh
   pub writes : (n : ℕ) → writeOf kind tags lengths vals out .reply ≡ accepted (n ∷ [])
       → Writes (rec kind (gathered tags lengths vals)) out (writeOf kind tags lengths vals out) n
   unfolding writeOf
-  writes n e = let run = gathered tags lengths vals in writing-writes (fault logged kind run) (rec kind run) out n refl e
+  writes n e = let run = gathered tags lengths vals in writing-writes (fault framed kind run) (rec kind run) out n refl e
 
 -- the record of a run's own lists is written, where it passes and the output has room
-pub write-record : (r : Rec) (out : Bytes) → fault logged (r .kind) (r .run) ≡ 0 → length (recordBytes r) ≤ length out
+pub write-record : (r : Rec) (out : Bytes) → fault framed (r .kind) (r .run) ≡ 0 → length (recordBytes r) ≤ length out
     → writeOf (r .kind) (tagsOf (r .run)) (lengthsOf (r .run)) (valuesOf (r .run)) out
     ≡ record { reply = accepted (length (recordBytes r) ∷ []); buffer = recordBytes r ++ drop (length (recordBytes r)) out }
 unfolding writeOf
 write-record r out ok h =
-    rw (gathered-fields (r .run) (fault-whole logged (r .kind) (r .run) ok), ok) (emit-fits (recordBytes r) out h)
+    rw (gathered-fields (r .run) (fault-whole framed (r .kind) (r .run) ok), ok) (emit-fits (recordBytes r) out h)
 
 -- 3. Read, then Write; Write, then Read
 
 -- what Read accepts writes back
-pub write-read : (s : Bytes) (r : Rec) (n : ℕ) (out : Bytes) → AreBytes s → read logged s ≡ got r n → n ≤ length out
+pub write-read : (s : Bytes) (r : Rec) (n : ℕ) (out : Bytes) → AreBytes s → read framed s ≡ got r n → n ≤ length out
     → writeOf (r .kind) (tagsOf (r .run)) (lengthsOf (r .run)) (valuesOf (r .run)) out
     ≡ record { reply = accepted (n ∷ []); buffer = take n s ++ drop n out }
 write-read s r n out p e h =
-    let d = reads logged s r n e in
+    let d = reads framed s r n e in
     write-record r out (d .passes) (omega (arith, d .used)) ∙ rw (← d .used, ← d .spelt p)
 
 -- what Write wrote reads back, whatever follows it
@@ -106,30 +106,30 @@ module _ (kind : Kind) (tags : Bytes) (lengths : List ℕ) (vals out : Bytes) (n
   pub written-lists : Lists (gathered tags lengths vals) tags lengths vals
   written-lists =
       let run = gathered tags lengths vals in
-      fields-gathered tags lengths vals (fault-whole logged kind run (writes kind tags lengths vals out n e .passes))
+      fields-gathered tags lengths vals (fault-whole framed kind run (writes kind tags lengths vals out n e .passes))
 
   pub read-write : (rest : Bytes)
-      → read logged (take n (writeOf kind tags lengths vals out .buffer) ++ rest) ≡ got (rec kind (gathered tags lengths vals)) n
+      → read framed (take n (writeOf kind tags lengths vals out .buffer) ++ rest) ≡ got (rec kind (gathered tags lengths vals)) n
   read-write rest =
       let r = rec kind (gathered tags lengths vals) in
       let w = writes kind tags lengths vals out n e in
-      ap (λ (z : Bytes). read logged (z ++ rest)) written ∙ read-record logged r rest (w .passes) ∙ ap (got r) (sym (w .wrote .size))
+      ap (λ (z : Bytes). read framed (z ++ rest)) written ∙ read-record framed r rest (w .passes) ∙ ap (got r) (sym (w .wrote .size))
 
   pub readOf-write : (rest : Bytes) → readOf (take n (writeOf kind tags lengths vals out .buffer) ++ rest) ≡ accepted (n ∷ [])
   unfolding readOf
   readOf-write rest = rw (read-write rest)
 
   pub read-back : (rest : Bytes) → let run = gathered tags lengths vals in
-      (read logged (take n (writeOf kind tags lengths vals out .buffer) ++ rest) ≡ got (rec kind run) n)
+      (read framed (take n (writeOf kind tags lengths vals out .buffer) ++ rest) ≡ got (rec kind run) n)
       × (tagsOf run ≡ tags) × (lengthsOf run ≡ lengths) × (valuesOf run ≡ vals)
   read-back rest = let l = written-lists in (read-write rest, l .of-tags, l .of-lengths, l .of-values)
 
 -- an accepted Read has a record
-pub readOf-read : (s : Bytes) (n : ℕ) → readOf s ≡ accepted (n ∷ []) → (r : Rec) × (read logged s ≡ got r n)
+pub readOf-read : (s : Bytes) (n : ℕ) → readOf s ≡ accepted (n ∷ []) → (r : Rec) × (read framed s ≡ got r n)
 unfolding readOf
-readOf-read s n e = go (read logged s) refl e
+readOf-read s n e = go (read framed s) refl e
   where
-    go : (g : Got) → read logged s ≡ g → onGot g refused (λ r used. accepted (used ∷ [])) ≡ accepted (n ∷ [])
-        → (r : Rec) × (read logged s ≡ got r n)
+    go : (g : Got) → read framed s ≡ g → onGot g refused (λ r used. accepted (used ∷ [])) ≡ accepted (n ∷ [])
+        → (r : Rec) × (read framed s ≡ got r n)
     go (bad m) f h = let q : _≡_ {A = List ℕ} [] (n ∷ []) = ap (λ (r : Reply). r .values) h in impossible cc
     go (got r m) f h = (r, f ∙ ap (got r) (one-value m n h))

@@ -1,6 +1,6 @@
 -- Laws of Restore: what a snapshot makes again.
 --
---   records applied in order; a record that stays ......... Replay.replayRecords, Replay.replay-items, Replay.replay-stays
+--   records applied in order, behind kind 26 .............. Replay.replayRecords, Replay.replay-bytes, Replay.replay-dated
 --   entries as a prefix of a snapshot makes them .......... Settled.settled, Settled.restored-plain, restored-topic, restored-part
 --   what they weigh ....................................... Weight.weight-settled
 --   the plan of a stored entry's record ................... Plans.plan-stores, Plans.overflows-new

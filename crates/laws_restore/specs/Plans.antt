@@ -22,8 +22,8 @@ use Rattle.model.specs.Move.{Move, putM, joinM, bumpM, fields, insertEntity, so
 use Rattle.model.specs.Move.{offsetSum, sumLeaves, sumBytes, storedOffset, plan, overflows}
 use Rattle.model.specs.Snapshot.{isLevel}
 use Rattle.model.specs.declared.Kind.{Kind}
-use Rattle.model.specs.declared.Kind.the-variants.{Topic, Partition, BrokerRegistration, DeleteTopic, TopicConfig, BrokerConfig, ClientQuota, ProducerIds, UnregisterBroker, KRaftVersion, FeatureLevel, ClientMetricsConfig, FeaturesEpoch}
-use Rattle.model.specs.declared.Kind.the-variants.{PartitionDirAssignment, PartitionOffsetAdvance, GroupConfig, ControllerRegistration, TopicFreeze, BreakGlassProposal, DeleteBreakGlassProposal, PartitionElr, PartitionRecovery, PartitionUpdate, BrokerRegistrationChange, UnregisterController}
+use Rattle.model.specs.declared.Kind.the-variants.{Topic, Partition, BrokerRegistration, DeleteTopic, TopicConfig, BrokerConfig, ClientQuota, ProducerIds, UnregisterBroker, KRaftVersion, FeatureLevel, ClientMetricsConfig, FeaturesEpoch, PartitionDirAssignment}
+use Rattle.model.specs.declared.Kind.the-variants.{PartitionOffsetAdvance, GroupConfig, ControllerRegistration, TopicFreeze, BreakGlassProposal, DeleteBreakGlassProposal, PartitionElr, PartitionRecovery, PartitionUpdate, BrokerRegistrationChange, UnregisterController, LogOffset}
 use Rattle.laws.specs.Choice.{impossible, true-false, and-left, and-right}
 use Rattle.laws.specs.Order.{gt-lt, keys-total}
 use Rattle.laws.specs.Numbers.{number-bound, bytes-number, place-bound, place-nonnegative, place-place}
@@ -152,3 +152,4 @@ plan-stores DeleteBreakGlassProposal f l s ok b h = impossible cc
 plan-stores PartitionUpdate f l s ok b h = impossible cc
 plan-stores BrokerRegistrationChange f l s ok b h = impossible cc
 plan-stores UnregisterController f l s ok b h = impossible cc
+plan-stores LogOffset f l s ok b h = impossible cc

@@ -1,22 +1,30 @@
--- Records applied in order, and what Replay answers for their bytes: the contents reached, or the first record that stays and its place.
-use mathlib.Core.Path.{_≡_, refl, _∙_, ap}
-use mathlib.Core.List.{List, [], _∷_, _++_}
+-- Records applied in order, and what a run of them restores: kind 26, then records that all apply.
+use mathlib.Core.Path.{_≡_, refl, sym, _∙_, ap}
+use mathlib.Core.List.{List, [], _∷_, _++_, append-nil}
+use mathlib.Core.Bool.{Bool, true, false, cond}
 use Prim.Native.Nat.{ℕ, _+_}
 use native.Mathlib.Omega.{arith}
-use native.Mathlib.Nat.{add-zero, zero-add}
+use native.Mathlib.Nat.{add-zero}
 use lib.ListN.{length, length-append}
 use Rattle.model.specs.Choice.{joined}
-use Rattle.model.specs.Number.{Bytes}
-use Rattle.model.specs.Shape.{logged, fault}
+use Rattle.model.specs.Number.{Bytes, isOffset}
+use Rattle.model.specs.Run.{field}
+use Rattle.model.specs.Kind.{kindNumber}
+use Rattle.model.specs.Shape.{logged, framed, fault}
 use Rattle.model.specs.Record.{Rec, recordBytes}
-use Rattle.model.specs.Items.{Items, end, itemsFrom, itemsOf}
+use Rattle.model.specs.Items.{Items, itemsFrom, itemsOf}
 use Rattle.model.specs.Reply.{accepted}
-use Rattle.model.specs.Contents.{Contents}
+use Rattle.model.specs.Contents.{Contents, fresh, dated}
 use Rattle.model.specs.Apply.{Applied, stays, becomes, apply}
-use Rattle.model.specs.Snapshot.{stopped, onApplied, replay}
+use Rattle.model.specs.Snapshot.{stopped, onApplied, offsetRec, isOffsetRec, replay, replayRun}
 use Rattle.laws.specs.Choice.{impossible}
-use Rattle.laws.specs.Lists.{joined-append, all-append-left, all-append-right}
-use Rattle.laws_records.specs.Items.{AllPass, placed, items-record, items-append, items-records}
+use Rattle.laws.specs.Lists.{all-imp}
+use Rattle.laws.specs.Numbers.{number-bytes}
+use Rattle.laws.specs.Offsets.{offset-span}
+use Rattle.laws_records.specs.Faults.{fault-known}
+use Rattle.laws_records.specs.Stored.{logged-framed}
+use Rattle.laws_records.specs.Items.{AllPass, placed, items-record, items-append}
+use Rattle.laws_image.specs.Snapshot.{offset-passes}
 
 -- each record applied to what the ones before it made, up to the first that stays
 unfoldable pub replayRecords : ℕ → List Rec → Contents → Applied
@@ -50,44 +58,22 @@ module _ (capacity : ℕ) where
       → replayRecords capacity (rs ++ ss) c ≡ replayRecords capacity ss d
   replay-after rs ss c d e = replay-append rs ss c ∙ rw e
 
-  -- the first record that stays, and the contents before it
-  pub record Stays (rs : List Rec) (c : Contents) (n : ℕ) : Type 0 where
-    pub before : List Rec
-    pub refused : Rec
-    pub after : List Rec
-    pub reached : Contents
-    pub split : rs ≡ before ++ (refused ∷ after)
-    pub applied : replayRecords capacity before c ≡ becomes reached
-    pub refusal : apply capacity refused reached ≡ stays n
-
-  pub stays-at : (rs : List Rec) (c : Contents) (n : ℕ) → replayRecords capacity rs c ≡ stays n → Stays rs c n
-  unfolding replayRecords
-  stays-at [] c n e = impossible cc
-  stays-at (r ∷ rs) c n e = go (apply capacity r c) refl e (λ d. stays-at rs d n)
-    where
-      go : (a : Applied) → apply capacity r c ≡ a → onApplied a stays (replayRecords capacity rs) ≡ stays n
-          → ((d : Contents) → replayRecords capacity rs d ≡ stays n → Stays rs d n) → Stays (r ∷ rs) c n
-      go (stays m) f q i =
-          record { before = []; refused = r; after = rs; reached = c; split = refl; applied = refl; refusal = f ∙ q }
-      go (becomes d) f q i =
-          let s = i d q in
-          record {
-            before = r ∷ s .before;
-            refused = s .refused;
-            after = s .after;
-            reached = s .reached;
-            split = ap (λ l. r ∷ l) (s .split);
-            applied = replay-cons r (s .before) c d f ∙ s .applied;
-            refusal = s .refusal;
-          }
-
   -- 2. Places
 
-  pub replay-placed : (rs : List Rec) (place : ℕ) (rest : ℕ → Items) (c d : Contents) → replayRecords capacity rs c ≡ becomes d
+  -- a logged record is not of kind 26
+  no-offset : (r : Rec) → fault logged (r .kind) (r .run) ≡ 0 → isOffsetRec r ≡ false
+  no-offset r ok = go (isOffsetRec r) (fault-known logged (r .kind) (r .run) ok)
+    where
+      go : (b : Bool) → _≡_ {A = ℕ} (cond b 3 0) 0 → b ≡ false
+      go true h = absurd (omega arith)
+      go false h = refl
+
+  pub replay-placed : (rs : List Rec) (place : ℕ) (rest : ℕ → Items) (c d : Contents) → AllPass logged rs → replayRecords capacity rs c ≡ becomes d
       → replay capacity (placed place rs rest) c ≡ replay capacity (rest (place + length (joined recordBytes rs))) d
   unfolding replayRecords replay
-  replay-placed [] place rest c d e = let q : c ≡ d = cc in rw (q, add-zero)
-  replay-placed (r ∷ rs) place rest c d e = go (apply capacity r c) e (λ x. replay-placed rs (place + length (recordBytes r)) rest x d)
+  replay-placed [] place rest c d ok e = let q : c ≡ d = cc in rw (q, add-zero)
+  replay-placed (r ∷ rs) place rest c d ok e =
+      rw (no-offset r (ok .0)) (go (apply capacity r c) e (λ x. replay-placed rs (place + length (recordBytes r)) rest x d (ok .1)))
     where
       next : ℕ
       next = place + length (recordBytes r)
@@ -103,39 +89,28 @@ module _ (capacity : ℕ) where
       go (stays n) q i = impossible cc
       go (becomes x) q i = i x q ∙ rw ends
 
-  -- 3. Bytes
+  -- 3. Bytes, as a snapshot has them
+
+  framed-pass : (rs : List Rec) → AllPass logged rs → AllPass framed rs
+  framed-pass rs ok =
+      all-imp (λ (r : Rec). fault logged (r .kind) (r .run) ≡ 0) (λ (r : Rec). fault framed (r .kind) (r .run) ≡ 0)
+      (λ r p. logged-framed (r .kind) (r .run) p) rs ok
 
   -- records that apply, and whatever bytes follow them
-  pub replay-bytes : (rs : List Rec) (s : Bytes) (c d : Contents) → AllPass logged rs → replayRecords capacity rs c ≡ becomes d
-      → replay capacity (itemsOf logged (joined recordBytes rs ++ s)) c
-      ≡ replay capacity (itemsFrom logged 0 (length (joined recordBytes rs)) s) d
-  replay-bytes rs s c d ok e =
-      ap (λ i. replay capacity i c) (items-append logged 0 rs s ok)
-      ∙ replay-placed rs 0 (λ p. itemsFrom logged 0 p s) c d e
-      ∙ rw zero-add
+  pub replay-bytes : (place : ℕ) (rs : List Rec) (s : Bytes) (c d : Contents) → AllPass logged rs → replayRecords capacity rs c ≡ becomes d
+      → replay capacity (itemsFrom framed 0 place (joined recordBytes rs ++ s)) c
+      ≡ replay capacity (itemsFrom framed 0 (place + length (joined recordBytes rs)) s) d
+  replay-bytes place rs s c d ok e =
+      ap (λ i. replay capacity i c) (items-append framed place rs s (framed-pass rs ok))
+      ∙ replay-placed rs place (λ p. itemsFrom framed 0 p s) c d ok e
 
-  pub replay-items : (rs : List Rec) (c d : Contents) → AllPass logged rs → replayRecords capacity rs c ≡ becomes d
-      → replay capacity (itemsOf logged (joined recordBytes rs)) c ≡ record { reply = accepted []; contents = d }
-  unfolding replay
-  replay-items rs c d ok e = ap (λ i. replay capacity i c) (items-records logged rs ok) ∙ replay-placed rs 0 (λ p. end) c d e
-
-  -- a record that stays: its number, its place and the contents before it, whatever bytes follow
-  pub replay-refused : (rs : List Rec) (r : Rec) (s : Bytes) (c d : Contents) (n : ℕ) → AllPass logged rs
-      → fault logged (r .kind) (r .run) ≡ 0 → replayRecords capacity rs c ≡ becomes d → apply capacity r d ≡ stays n
-      → replay capacity (itemsOf logged (joined recordBytes rs ++ (recordBytes r ++ s))) c ≡ stopped n (length (joined recordBytes rs)) d
-  unfolding replay
-  replay-refused rs r s c d n ok pass e f =
-      let place = length (joined recordBytes rs) in
-      replay-bytes rs (recordBytes r ++ s) c d ok e
-      ∙ ap (λ i. replay capacity i d) (items-record logged place r s pass)
-      ∙ ap (λ a. onApplied a (λ m. stopped m place d) (replay capacity (itemsFrom logged 0 (place + length (recordBytes r)) s))) f
-
-  pub replay-stays : (rs : List Rec) (c : Contents) (n : ℕ) → AllPass logged rs → (s : Stays rs c n)
-      → replay capacity (itemsOf logged (joined recordBytes rs)) c ≡ stopped n (length (joined recordBytes (s .before))) (s .reached)
-  replay-stays rs c n ok s =
-      let pass = rw (s .split) at ok in
-      let mine = all-append-right (λ r. fault logged (r .kind) (r .run) ≡ 0) (s .before) (s .refused ∷ s .after) pass in
-      let before = all-append-left (λ r. fault logged (r .kind) (r .run) ≡ 0) (s .before) (s .refused ∷ s .after) pass in
-      ap (λ l. replay capacity (itemsOf logged (joined recordBytes l)) c) (s .split)
-      ∙ ap (λ b. replay capacity (itemsOf logged b) c) (joined-append recordBytes (s .before) (s .refused ∷ s .after))
-      ∙ replay-refused (s .before) (s .refused) (joined recordBytes (s .after)) c (s .reached) n before (mine .0) (s .applied) (s .refusal)
+  -- kind 26, and records that apply
+  pub replay-dated : (o : ℕ) → isOffset o ≡ true → (rs : List Rec) (d : Contents) → AllPass logged rs → replayRecords capacity rs (dated o fresh) ≡ becomes d
+      → replayRun capacity (itemsOf framed (recordBytes (offsetRec o) ++ joined recordBytes rs)) ≡ record { reply = accepted []; contents = d }
+  unfolding replayRun replay itemsFrom field kindNumber
+  replay-dated o h rs d ok e =
+      let here = length (recordBytes (offsetRec o)) in
+      ap (replayRun capacity) (items-record framed 0 (offsetRec o) (joined recordBytes rs) (offset-passes o h))
+      ∙ ap (λ n. replay capacity (itemsFrom framed 0 (0 + here) (joined recordBytes rs)) (dated n fresh)) (number-bytes 8 o (offset-span o h))
+      ∙ ap (λ s. replay capacity (itemsFrom framed 0 (0 + here) s) (dated o fresh)) (sym (append-nil (joined recordBytes rs)))
+      ∙ replay-bytes (0 + here) rs [] (dated o fresh) d ok e

@@ -192,5 +192,6 @@ restored-fits capacity c fits =
       orderly = sound-orderly (restored c) (restored-orderly c (orderly c (fits .orderly)));
       epoch = epoch-fits (levels l) (c .fixed .epoch) (omega (arith, levels-total l)) (fits .epoch);
       kraft = fits .kraft;
+      offset = fits .offset;
       room = settled-room capacity c fits;
     }

@@ -26,8 +26,8 @@ use Rattle.laws_image.specs.Entries.{not-partition}
 use Rattle.laws_image.specs.Ranks.{rank-injective, key-rank}
 
 -- the contents that the first records of a snapshot make
-abbrev pub settled : List Entry → Contents
-settled l = record { real = map (restoredEntry l) l; empties = []; fixed = record { epoch = lessOne (levels l); kraft = 0 } }
+abbrev pub settled : ℕ → List Entry → Contents
+settled o l = record { real = map (restoredEntry l) l; empties = []; fixed = record { epoch = lessOne (levels l); kraft = 0; offset = o } }
 
 -- 1. One entry more
 

@@ -103,14 +103,14 @@ stores-made : {r : Rec} {level : Bool} {ms : List Move} → Stores r level ms �
     ≡ record {
       real = put key (plain r) l;
       empties = [];
-      fixed = record { epoch = cond level (bumped (f .epoch)) (f .epoch); kraft = f .kraft };
+      fixed = record { epoch = cond level (bumped (f .epoch)) (f .epoch); kraft = f .kraft; offset = f .offset };
     }
 unfolding moves move onReal onEmpties onFixed remove
 stores-made puts l f = refl
 stores-made joins l f = refl
 stores-made bumps l f = refl
 
-module _ (l : List Entry) where
+module _ (o : ℕ) (l : List Entry) where
   -- an entry of another rank is no level
   levels-same : (e : Entry) → isLevel (key e) ≡ false → levels l ≡ levels (l ++ (e ∷ []))
   levels-same e h = sym (levels-more l e ∙ rw (h, add-zero))
@@ -125,30 +125,30 @@ module _ (l : List Entry) where
       go false = rw add-zero
 
   plain-step : (r : Rec) → storable (r .kind) (r .run) ≡ true → Loggable r → Under key (key (plain r)) l → levels l < half 8
-      → moved r (settled l) ≡ settled (l ++ (plain r ∷ []))
+      → moved r (settled o l) ≡ settled o (l ++ (plain r ∷ []))
   unfolding moved key
   plain-step r s p u small =
       let st = plan-stores (r .kind) (r .run) (map (restoredEntry l) l) s (p .0) (p .1) (none-yet l (plain r) u) in
-      stores-made st (map (restoredEntry l) l) (settled l .fixed)
-      ∙ (λ i. record { real = plain-real l r s u i; empties = []; fixed = record { epoch = epoch-step (plain r) small i; kraft = 0 } })
+      stores-made st (map (restoredEntry l) l) (settled o l .fixed)
+      ∙ (λ i. record { real = plain-real l r s u i; empties = []; fixed = record { epoch = epoch-step (plain r) small i; kraft = 0; offset = o } })
 
   topic-step : (name id : Bytes) (count factor : ℕ) (named : Bool) → factor < span 2 → Under key (topicKey name) l
-      → moved (returned (topic name id count factor named)) (settled l) ≡ settled (l ++ (topic name id count factor named ∷ []))
+      → moved (returned (topic name id count factor named)) (settled o l) ≡ settled o (l ++ (topic name id count factor named ∷ []))
   unfolding moved moves plan returned field move onEmpties onFixed isLevel key keyRank rank
   topic-step name id count factor named h u =
       let e = topic name id count factor named in
       let real =
       ap (λ n. onReal (topicM name id n) (map (restoredEntry l) l)) (number-bytes 2 factor h)
       ∙ topic-real l name id count factor named u in
-      λ i. record { real = real i; empties = []; fixed = record { epoch = lessOne (levels-same e refl i); kraft = 0 } }
+      λ i. record { real = real i; empties = []; fixed = record { epoch = lessOne (levels-same e refl i); kraft = 0; offset = o } }
 
-  part-step : (r : Run) → Under key (keyOf Partition r) l → moved (rec Partition r) (settled l) ≡ settled (l ++ (part r ∷ []))
+  part-step : (r : Run) → Under key (keyOf Partition r) l → moved (rec Partition r) (settled o l) ≡ settled o (l ++ (part r ∷ []))
   unfolding moved moves plan move onEmpties onFixed isLevel key keyOf keyRank rank
   part-step r u =
-      λ i. record { real = part-real l r u i; empties = []; fixed = record { epoch = lessOne (levels-same (part r) refl i); kraft = 0 } }
+      λ i. record { real = part-real l r u i; empties = []; fixed = record { epoch = lessOne (levels-same (part r) refl i); kraft = 0; offset = o } }
 
   pub moved-more : (e : Entry) → Storable e → Proper e → Under key (key e) l → levels l < half 8
-      → moved (returned e) (settled l) ≡ settled (l ++ (e ∷ []))
+      → moved (returned e) (settled o l) ≡ settled o (l ++ (e ∷ []))
   unfolding key returned
   moved-more (topic name id count factor named) s p u small = topic-step name id count factor named (p .numbers .1) u
   moved-more (part r) s p u small = part-step r u
@@ -163,9 +163,9 @@ unfolding apply
 apply-fits capacity r c d o e w =
     rw o (ap (λ x. cond (leb (weight x) capacity) (becomes x) (stays 18)) e ∙ rw (le-leb (weight d) capacity w))
 
-pub apply-more : (capacity : ℕ) (l : List Entry) (e : Entry) → Storable e → Proper e → Under key (key e) l → levels l < half 8
-    → weight (settled (l ++ (e ∷ []))) ≤ capacity → apply capacity (returned e) (settled l) ≡ becomes (settled (l ++ (e ∷ [])))
-apply-more capacity l e s p u small w =
-    let new : get key (recordKey (returned e)) (settled l .real) ≡ none = rw (← key-returned e) (none-yet l e u) in
-    let first = overflows-new (returned e) (settled l .real) new in
-    apply-fits capacity (returned e) (settled l) (settled (l ++ (e ∷ []))) first (moved-more l e s p u small) w
+pub apply-more : (capacity o : ℕ) (l : List Entry) (e : Entry) → Storable e → Proper e → Under key (key e) l → levels l < half 8
+    → weight (settled o (l ++ (e ∷ []))) ≤ capacity → apply capacity (returned e) (settled o l) ≡ becomes (settled o (l ++ (e ∷ [])))
+apply-more capacity o l e s p u small w =
+    let new : get key (recordKey (returned e)) (settled o l .real) ≡ none = rw (← key-returned e) (none-yet l e u) in
+    let first = overflows-new (returned e) (settled o l .real) new in
+    apply-fits capacity (returned e) (settled o l) (settled o (l ++ (e ∷ []))) first (moved-more o l e s p u small) w

@@ -2,7 +2,7 @@
 use mathlib.Core.Path.{_≡_, refl, ap}
 use mathlib.Core.List.{List, map}
 use mathlib.Core.Bool.{Bool, true, false, cond}
-use Prim.Native.Nat.{_+_, _≤_}
+use Prim.Native.Nat.{ℕ, _+_, _≤_}
 use native.Mathlib.Omega.{arith}
 use lib.Dec.{eqb}
 use lib.ListN.{length}
@@ -35,9 +35,9 @@ size-restored l (plain r) = refl
 pub total-restored : (l m : List Entry) → total size (map (restoredEntry l) m) ≡ total size m
 total-restored l m = total-map-same size (restoredEntry l) m (all-any (λ e. size (restoredEntry l e) ≡ size e) (size-restored l) m)
 
-pub weight-settled : (l : List Entry) → weight (settled l) ≡ fixedRoom + total size l
+pub weight-settled : (o : ℕ) (l : List Entry) → weight (settled o l) ≡ fixedRoom + total size l
 unfolding weight total
-weight-settled l = omega (arith, total-restored l l)
+weight-settled o l = omega (arith, total-restored l l)
 
 -- only producer ids weigh nothing
 pub size-positive : (e : Entry) → (keyRank (key e) ≡ rank ProducerIds → ⊥) → 1 ≤ size e

@@ -20,7 +20,7 @@ use Rattle.model.specs.Contents.{Entry, key}
 use Rattle.model.specs.Image.{headSize, fixedIn, entryOf, isImage, contentsOf}
 use Rattle.model.specs.Reply.{Reply, accepted, refused, Ended}
 use Rattle.model.specs.Snapshot.{emit}
-use Rattle.model.specs.Lookup.{found, named, namedBy, topicByName, topicById, partitionOf, brokerOf, epochOf, shortCount, shortOf, throttle, throttleName, leaderRate, followerRate, alterLogDirsRate, freeze, asList, asValues, freezeOf, throttleOf}
+use Rattle.model.specs.Lookup.{found, named, namedBy, topicByName, topicById, partitionOf, brokerOf, epochOf, offsetOf, shortCount, shortOf, throttle, throttleName, leaderRate, followerRate, alterLogDirsRate, freeze, asList, asValues, freezeOf, throttleOf}
 use Rattle.model.specs.declared.Kind.the-variants.{Partition, BrokerRegistration}
 use Rattle.laws.specs.Choice.{orThen-right, unless-true}
 use Rattle.laws_image.specs.Tests.{capacity-least, image-holds}
@@ -94,6 +94,10 @@ module _ (image out : Bytes) {is : Bool} (ei : is ≡ isImage image) where
     pub epoch-no-image : refused 1 ≡ epochOf image
     unfolding epochOf
     epoch-no-image = rw (← ei, not-true is no)
+
+    pub offset-no-image : refused 1 ≡ offsetOf image
+    unfolding offsetOf
+    offset-no-image = rw (← ei, not-true is no)
 
     pub short-no-image : refused 1 ≡ shortOf image
     unfolding shortOf
@@ -180,6 +184,10 @@ module _ (image out : Bytes) {is : Bool} (ei : is ≡ isImage image) where
     pub epoch-found : {n : ℕ} → n ≡ fixedIn image .epoch → accepted (n ∷ []) ≡ epochOf image
     unfolding epochOf contentsOf
     epoch-found e = rw (image-is, ← e)
+
+    pub offset-found : {n : ℕ} → n ≡ fixedIn image .offset → accepted (n ∷ []) ≡ offsetOf image
+    unfolding offsetOf contentsOf
+    offset-found e = rw (image-is, ← e)
 
     pub short-found : {n : ℕ} {l : List Entry} → l ≡ contentsOf image .real → n ≡ shortCount l → accepted (n ∷ []) ≡ shortOf image
     unfolding shortOf

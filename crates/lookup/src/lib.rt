@@ -1,8 +1,9 @@
-// Lookups: a stored entry as its record, the features epoch, the number of short partitions, the freeze of a name, a rate.
+// Lookups: a stored entry as its record, the features epoch, the log offset, the number of short partitions, the freeze of a name, a rate.
 use find::emit_found;
 use find::reals_end;
 use header::HEAD_SIZE;
 use header::epoch_in;
+use header::offset_in;
 use image::is_image;
 use lookup_freezes::emit_freeze;
 use lookup_rates::Rate;
@@ -27,7 +28,7 @@ ghost use Rattle.model.specs.Map.{get};
 ghost use Rattle.model.specs.Contents.{key};
 ghost use Rattle.model.specs.Image.{isImage, contentsOf};
 ghost use Rattle.model.specs.Snapshot.{emit};
-ghost use Rattle.model.specs.Lookup.{found, topicByName, topicById, partitionOf, brokerOf, epochOf, shortOf, throttle as throttleIn, freezeOf, throttleOf};
+ghost use Rattle.model.specs.Lookup.{found, topicByName, topicById, partitionOf, brokerOf, epochOf, offsetOf, shortOf, throttle as throttleIn, freezeOf, throttleOf};
 ghost use Rattle.model.specs.Answers.{replied, valued, rating};
 ghost use Rattle.find.specs.Found.{Query, queryKey};
 ghost use Rattle.lookup.specs.Values.{ratedAs};
@@ -110,6 +111,16 @@ pub fn features_epoch(image: &[u8]) -> Value
         return Value::Refused(NO_IMAGE);
     }
     Value::Is(epoch_in(image))
+}
+
+// The log offset of the last record applied, an i64 by its bits: -1 where there is none.
+pub fn log_offset(image: &[u8]) -> Value
+    ensures { λ r. ⌜ valued r ≡ offsetOf (now (image .entry)) ⌝ }
+{
+    if !is_image(image) {
+        return Value::Refused(NO_IMAGE);
+    }
+    Value::Is(offset_in(image))
 }
 
 // How many partitions are short: their ISR has fewer nodes than their replicas.

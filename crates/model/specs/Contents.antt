@@ -13,8 +13,8 @@ use Rattle.model.specs.Record.{Rec, rec, recordBytes}
 use Rattle.model.specs.Key.{rank, namePart, keyOf, topicKey, keyRank, keyName, groupKey, startsWith}
 use Rattle.model.specs.Map.{any, count, ascending}
 use Rattle.model.specs.declared.Kind.{Kind}
-use Rattle.model.specs.declared.Kind.the-variants.{Topic, Partition, BrokerRegistration, DeleteTopic, TopicConfig, BrokerConfig, ClientQuota, ProducerIds, UnregisterBroker, KRaftVersion, FeatureLevel, ClientMetricsConfig, FeaturesEpoch}
-use Rattle.model.specs.declared.Kind.the-variants.{PartitionDirAssignment, PartitionOffsetAdvance, GroupConfig, ControllerRegistration, TopicFreeze, BreakGlassProposal, DeleteBreakGlassProposal, PartitionElr, PartitionRecovery, PartitionUpdate, BrokerRegistrationChange, UnregisterController}
+use Rattle.model.specs.declared.Kind.the-variants.{Topic, Partition, BrokerRegistration, DeleteTopic, TopicConfig, BrokerConfig, ClientQuota, ProducerIds, UnregisterBroker, KRaftVersion, FeatureLevel, ClientMetricsConfig, FeaturesEpoch, PartitionDirAssignment}
+use Rattle.model.specs.declared.Kind.the-variants.{PartitionOffsetAdvance, GroupConfig, ControllerRegistration, TopicFreeze, BreakGlassProposal, DeleteBreakGlassProposal, PartitionElr, PartitionRecovery, PartitionUpdate, BrokerRegistrationChange, UnregisterController, LogOffset}
 
 -- 1. Entries
 
@@ -64,19 +64,25 @@ inGroupOf r k = startsWith (groupKey (recordKey r)) k
 
 -- 3. Contents
 
--- the parts that are no entries
+-- the parts that are no entries: the features epoch, the kraft version, and the log offset of the last record applied, each as the unsigned
+-- number of its bytes
 pub record Fixed : Type 0 where
   pub epoch : ℕ
   pub kraft : ℕ
+  pub offset : ℕ
 
 pub record Contents : Type 0 where
   pub real : List Entry
   pub empties : List Rec
   pub fixed : Fixed
 
--- "Features epoch starts at -1"
+-- "Features epoch starts at -1"; 02, 5: the log offset is "-1 when fresh"
 abbrev pub fresh : Contents
-fresh = record { real = []; empties = []; fixed = record { epoch = span 8 - 1; kraft = 0 } }
+fresh = record { real = []; empties = []; fixed = record { epoch = span 8 - 1; kraft = 0; offset = span 8 - 1 } }
+
+-- the same at another log offset
+abbrev pub dated : ℕ → Contents → Contents
+dated n c = record { real = c .real; empties = c .empties; fixed = record { epoch = c .fixed .epoch; kraft = c .fixed .kraft; offset = n } }
 
 -- "its stored partitions' number"
 unfoldable pub ofTopic : Bytes → Key → Bool
@@ -85,11 +91,11 @@ ofTopic name k = eqb (keyRank k) (rank Partition) && sameBytes (keyName k) name
 unfoldable pub partitions : Bytes → List Entry → ℕ
 partitions name l = count key (ofTopic name) l
 
--- 4. Weight: "128, plus the snapshot's encoded records other than kinds 8, 10 and 13, plus 8 per topic. An empty group weighs as its record
--- with an empty name and no value."
+-- 4. Weight: 144 (02, 5: "Fixed room grows from 128 to 144"), "plus the snapshot's encoded records other than kinds 8, 10 and 13, plus 8 per
+-- topic. An empty group weighs as its record with an empty name and no value." Kind 26 is "outside the weight".
 
 abbrev pub fixedRoom : ℕ
-fixedRoom = 128
+fixedRoom = 144
 
 abbrev pub isProducerIds : Rec → Bool
 isProducerIds r = eqb (kindNumber (r .kind)) (kindNumber ProducerIds)
@@ -145,6 +151,7 @@ storable DeleteBreakGlassProposal r = false
 storable PartitionUpdate r = false
 storable BrokerRegistrationChange r = false
 storable UnregisterController r = false
+storable LogOffset r = false
 
 -- an empty group's record: no value, an empty name, and a quota's entities in order
 abbrev pub isConfig : Rec → Bool

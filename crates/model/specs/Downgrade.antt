@@ -1,6 +1,6 @@
 -- *Downgrade*: "changed broker projections by node, then, below 17, one DirAssignment per non-`MIGRATING` slot below both lengths, by topic,
 -- partition, slot. Log dirs clear below 17, cordoned dirs below 30."
-use Prim.Native.Nat.{ℕ, zero, suc, _+_, _*_, _/_, min}
+use Prim.Native.Nat.{ℕ, zero, suc, _+_, _*_, _/_, _<_, min}
 use mathlib.Core.Path.{_≡_}
 use mathlib.Core.Bool.{Bool, true, false, cond, _&&_, not}
 use mathlib.Core.List.{List, [], _∷_, _++_, map}
@@ -8,20 +8,20 @@ use mathlib.Core.Option.{Option, none, some}
 use lib.Dec.{ltb, eqb}
 use lib.ListN.{length, take, drop, replicate}
 use Rattle.model.specs.Choice.{isEmpty, joined}
-use Rattle.model.specs.Number.{Bytes, AreBytes, half, place}
+use Rattle.model.specs.Number.{Bytes, AreBytes, span, half, place}
 use Rattle.model.specs.Order.{Key, sameBytes}
 use Rattle.model.specs.Run.{Run, done, item, bytesOf, value, setField, dropField}
 use Rattle.model.specs.Kind.{kindNumber}
-use Rattle.model.specs.Shape.{logged}
+use Rattle.model.specs.Shape.{framed}
 use Rattle.model.specs.Record.{Rec, rec, recordBytes}
 use Rattle.model.specs.Items.{itemsOf, records, isWhole}
 use Rattle.model.specs.Key.{rank, keyRank}
 use Rattle.model.specs.Map.{keep}
-use Rattle.model.specs.Contents.{Entry, topic, part, plain, key, Contents}
+use Rattle.model.specs.Contents.{Entry, topic, part, plain, key, Contents, dated}
 use Rattle.model.specs.Image.{isImage, contentsOf}
 use Rattle.model.specs.Move.{replicas, directories, nodeWidth, idWidth, nodeCount}
 use Rattle.model.specs.Validate.{validateOf}
-use Rattle.model.specs.Apply.{applyOf}
+use Rattle.model.specs.Apply.{isLater, applyOf}
 use Rattle.model.specs.Snapshot.{emit}
 use Rattle.model.specs.Reply.{Ended, accepted, unchanged, emitBytes}
 use Rattle.model.specs.declared.Kind.the-variants.{Partition, BrokerRegistration, PartitionDirAssignment}
@@ -79,17 +79,32 @@ downgradeOf image level out = cond (isImage image) (emit (downgrade level (conte
 
 -- 1. The pass
 
--- records given to Apply one after the other: the image afterwards, none where one is refused
-unfoldable pub appliedAll : List Rec → Bytes → Option Bytes
-appliedAll [] image = some image
-appliedAll (r ∷ rs) image =
-    cond (eqb (applyOf image (recordBytes r) .reply .number) 0) (appliedAll rs (applyOf image (recordBytes r) .buffer)) none
+-- records given to Apply one after the other, each with its log offset: the image afterwards, none where one is refused or where there are not
+-- as many offsets as records
+unfoldable pub appliedAll : List ℕ → List Rec → Bytes → Option Bytes
+appliedAll [] [] image = some image
+appliedAll [] (r ∷ rs) image = none
+appliedAll (n ∷ ns) [] image = none
+appliedAll (n ∷ ns) (r ∷ rs) image =
+    cond (eqb (applyOf image n (recordBytes r) .reply .number) 0) (appliedAll ns rs (applyOf image n (recordBytes r) .buffer)) none
 
--- A pass under way: some of the listed records, from the first, were applied without a refusal; the image that they reached, and those left.
-pub record UnderWay (level : ℕ) (image reached : Bytes) (left : List Rec) : Type 0 where
+-- each offset is of eight bytes
+abbrev pub AreOffsets : List ℕ → Type 0
+AreOffsets [] = Unit {0}
+AreOffsets (n ∷ ns) = (n < span 8) × AreOffsets ns
+
+-- the last offset given, or the one before where none is
+unfoldable pub lastOffset : ℕ → List ℕ → ℕ
+lastOffset before [] = before
+lastOffset before (n ∷ ns) = lastOffset n ns
+
+-- A pass under way: some of the listed records, from the first, were applied without a refusal, with whatever offsets; the image that they
+-- reached, and those left.
+pub record UnderWay (level : ℕ) (image : Bytes) (offsets : List ℕ) (reached : Bytes) (left : List Rec) : Type 0 where
   pub given : List Rec
   pub listing : downgrade level (contentsOf image) ≡ given ++ left
-  pub applied : appliedAll given image ≡ some reached
+  pub areOffsets : AreOffsets offsets
+  pub applied : appliedAll offsets given image ≡ some reached
 
 -- 2. What it leaves
 
@@ -106,6 +121,10 @@ lowered level (plain r) = cond (isEmpty (listed level (plain r))) (plain r) (pla
 abbrev pub loweredContents : ℕ → Contents → Contents
 loweredContents level c = record { real = map (lowered level) (c .real); empties = c .empties; fixed = c .fixed }
 
+-- the log offset is the one of the last record
+abbrev pub datedLast : List ℕ → Contents → Contents
+datedLast offsets c = dated (lastOffset (c .fixed .offset) offsets) c
+
 -- neither a broker nor a partition
 unfoldable pub isOther : Key → Bool
 isOther k = not (eqb (keyRank k) (rank BrokerRegistration)) && not (eqb (keyRank k) (rank Partition))
@@ -113,35 +132,38 @@ isOther k = not (eqb (keyRank k) (rank BrokerRegistration)) && not (eqb (keyRank
 -- 3. The claims
 
 -- "for every level, applying the listed records in order without a refusal leaves an image whose listing for that level is empty"; the image is
--- of the same capacity, and its contents are the lowered ones
+-- of the same capacity, and its contents are the lowered ones at the last offset given
 abbrev pub DowngradeDone : Type 0
 DowngradeDone =
-    (level : ℕ) (image after : Bytes) → AreBytes image → isImage image ≡ true →
-    appliedAll (downgrade level (contentsOf image)) image ≡ some after →
+    (level : ℕ) (image after : Bytes) (offsets : List ℕ) → AreBytes image → isImage image ≡ true → AreOffsets offsets →
+    appliedAll offsets (downgrade level (contentsOf image)) image ≡ some after →
     (downgrade level (contentsOf after) ≡ []) × (isImage after ≡ true) × (length after ≡ length image) ×
-    (contentsOf after ≡ loweredContents level (contentsOf image))
+    (contentsOf after ≡ datedLast offsets (loweredContents level (contentsOf image)))
 
 -- "Topics, partition offsets, configs and freezes are unchanged by the pass": every entry that is neither a broker nor a partition, the empty
--- groups and the fixed parts; after the pass and after each record of it, so also where a refusal stops it. What is reached is an image.
+-- groups and the fixed parts but for the log offset, which is the last one given; after the pass and after each record of it, so also where a
+-- refusal stops it. What is reached is an image.
 abbrev pub DowngradeKeeps : Type 0
 DowngradeKeeps =
-    (level : ℕ) (image reached : Bytes) (left : List Rec) → AreBytes image → isImage image ≡ true → UnderWay level image reached left →
+    (level : ℕ) (image reached : Bytes) (offsets : List ℕ) (left : List Rec) → AreBytes image → isImage image ≡ true →
+    UnderWay level image offsets reached left →
     (isImage reached ≡ true) × (length reached ≡ length image) ×
     (keep key isOther (contentsOf reached .real) ≡ keep key isOther (contentsOf image .real)) ×
-    (contentsOf reached .empties ≡ contentsOf image .empties) × (contentsOf reached .fixed ≡ contentsOf image .fixed)
+    (contentsOf reached .empties ≡ contentsOf image .empties) × (contentsOf reached .fixed ≡ datedLast offsets (contentsOf image) .fixed)
 
 -- Validate says 0 to each listed record, at its place in the pass
 abbrev pub ListedAdmitted : Type 0
 ListedAdmitted =
-    (level : ℕ) (image reached : Bytes) (r : Rec) (left : List Rec) → AreBytes image → isImage image ≡ true →
-    UnderWay level image reached (r ∷ left) → validateOf reached (recordBytes r) ≡ accepted []
+    (level : ℕ) (image reached : Bytes) (offsets : List ℕ) (r : Rec) (left : List Rec) → AreBytes image → isImage image ≡ true →
+    UnderWay level image offsets reached (r ∷ left) → validateOf reached (recordBytes r) ≡ accepted []
 
--- the only refusal of a listed record, at its place in the pass, is 18, and it leaves the image that was reached
+-- the only refusal of a listed record, at its place in the pass and with an offset above the stored one, is 18; any other offset is 21. Either
+-- leaves the image that was reached.
 abbrev pub OnlyRoomRefuses : Type 0
 OnlyRoomRefuses =
-    (level : ℕ) (image reached : Bytes) (r : Rec) (left : List Rec) → AreBytes image → isImage image ≡ true →
-    UnderWay level image reached (r ∷ left) → eqb (applyOf reached (recordBytes r) .reply .number) 0 ≡ false →
-    applyOf reached (recordBytes r) ≡ unchanged 18 reached
+    (level : ℕ) (image reached : Bytes) (offsets : List ℕ) (r : Rec) (left : List Rec) (offset : ℕ) → AreBytes image → isImage image ≡ true →
+    UnderWay level image offsets reached (r ∷ left) → eqb (applyOf reached offset (recordBytes r) .reply .number) 0 ≡ false →
+    applyOf reached offset (recordBytes r) ≡ unchanged (cond (isLater (contentsOf reached .fixed .offset) offset) 18 21) reached
 
 -- the bytes that Downgrade writes are the listed records: Read finds these in them and nothing else
 abbrev pub ListingReadsBack : Type 0
@@ -149,11 +171,11 @@ ListingReadsBack =
     (level : ℕ) (image out : Bytes) → AreBytes image → isImage image ≡ true →
     let listing = downgrade level (contentsOf image) in
     let s = joined recordBytes listing in
-    (downgradeOf image level out ≡ emitBytes s out) × (records (itemsOf logged s) ≡ listing) × (isWhole (itemsOf logged s) ≡ true)
+    (downgradeOf image level out ≡ emitBytes s out) × (records (itemsOf framed s) ≡ listing) × (isWhole (itemsOf framed s) ≡ true)
 
 -- and after the pass it writes nothing, whatever the output
 abbrev pub NothingWrittenAfter : Type 0
 NothingWrittenAfter =
-    (level : ℕ) (image after out : Bytes) → AreBytes image → isImage image ≡ true →
-    appliedAll (downgrade level (contentsOf image)) image ≡ some after →
+    (level : ℕ) (image after : Bytes) (offsets : List ℕ) (out : Bytes) → AreBytes image → isImage image ≡ true → AreOffsets offsets →
+    appliedAll offsets (downgrade level (contentsOf image)) image ≡ some after →
     downgradeOf after level out ≡ record { reply = accepted (0 ∷ []); buffer = out }

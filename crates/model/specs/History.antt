@@ -1,14 +1,14 @@
 -- Histories and cuts: 01's section of that name, and demand 3: cuts are unseen, what a cut makes, that an image stays one, and that each
 -- premise is needed. `crates/history` proves them, the last `crates/cases`.
 use mathlib.Core.Path.{_≡_}
-use Prim.Native.Nat.{ℕ}
+use Prim.Native.Nat.{ℕ, _-_, _<_}
 use mathlib.Core.Bool.{Bool, true, false, cond, _&&_, not}
 use mathlib.Core.List.{List, [], _∷_, _++_}
 use mathlib.Core.Option.{Option, none, some}
 use lib.Dec.{eqb}
 use lib.ListN.{length, take}
 use Rattle.model.specs.Choice.{every}
-use Rattle.model.specs.Number.{Bytes, AreBytes, number, isNegative}
+use Rattle.model.specs.Number.{Bytes, AreBytes, number, span, isNegative}
 use Rattle.model.specs.Order.{sameBytes}
 use Rattle.model.specs.Run.{value}
 use Rattle.model.specs.Kind.{kindNumber}
@@ -22,7 +22,7 @@ use Rattle.model.specs.Move.{partitionTopic, replicas, nodeCount}
 use Rattle.model.specs.Validate.{validateOf}
 use Rattle.model.specs.Apply.{applyOf}
 use Rattle.model.specs.Snapshot.{snapshotOf, restoreOf, restored}
-use Rattle.model.specs.Lookup.{topicByName, topicById, partitionOf, brokerOf, epochOf, shortOf, freezeOf, throttleOf}
+use Rattle.model.specs.Lookup.{topicByName, topicById, partitionOf, brokerOf, epochOf, offsetOf, shortOf, freezeOf, throttleOf}
 use Rattle.model.specs.Downgrade.{downgradeOf}
 use Rattle.model.specs.Reply.{Reply, accepted, Ended}
 use Rattle.model.specs.declared.Kind.the-variants.{FeaturesEpoch}
@@ -31,14 +31,15 @@ use Rattle.model.specs.declared.Kind.the-variants.{FeaturesEpoch}
 
 -- each with its own inputs and output buffer
 pub data Step : Type 0 where
-  -- a record's bytes, any bytes: validated, then applied where Validate says 0
-  give : Bytes → Step
+  -- an offset and a record's bytes, any bytes: validated, then applied where Validate says 0
+  give : ℕ → Bytes → Step
   -- lookups: a name, an id, a topic and a number, a node, each with an output; a node and a kind byte
   askTopic : Bytes → Bytes → Step
   askTopicId : Bytes → Bytes → Step
   askPartition : Bytes → ℕ → Bytes → Step
   askBroker : ℕ → Bytes → Step
   askEpoch : Step
+  askOffset : Step
   askShort : Step
   askFreeze : Bytes → Bytes → Step
   askThrottle : ℕ → ℕ → Step
@@ -58,11 +59,11 @@ pub data Answer : Type 0 where
 abbrev pub admitted : Bytes → Bytes → Bool
 admitted input image = eqb (validateOf image input .number) 0
 
-abbrev pub judged : Bytes → Bytes → Answer
-judged input image = verdict (validateOf image input) (cond (admitted input image) (some (applyOf image input .reply)) none)
+abbrev pub judged : ℕ → Bytes → Bytes → Answer
+judged offset input image = verdict (validateOf image input) (cond (admitted input image) (some (applyOf image offset input .reply)) none)
 
-abbrev pub imageAfter : Bytes → Bytes → Bytes
-imageAfter input image = cond (admitted input image) (applyOf image input .buffer) image
+abbrev pub imageAfter : ℕ → Bytes → Bytes → Bytes
+imageAfter offset input image = cond (admitted input image) (applyOf image offset input .buffer) image
 
 -- the value that comes with a number, 0 where none does
 abbrev pub firstValue : List ℕ → ℕ
@@ -81,12 +82,13 @@ cutImage own other image =
 
 -- what a step answers, and the image that the next step gets
 unfoldable pub answer : Step → Bytes → List Answer
-answer (give input) image = judged input image ∷ []
+answer (give offset input) image = judged offset input image ∷ []
 answer (askTopic name out) image = wrote (topicByName image name out) ∷ []
 answer (askTopicId id out) image = wrote (topicById image id out) ∷ []
 answer (askPartition name n out) image = wrote (partitionOf image name n out) ∷ []
 answer (askBroker node out) image = wrote (brokerOf image node out) ∷ []
 answer askEpoch image = said (epochOf image) ∷ []
+answer askOffset image = said (offsetOf image) ∷ []
 answer askShort image = said (shortOf image) ∷ []
 answer (askFreeze name out) image = wrote (freezeOf image name out) ∷ []
 answer (askThrottle node which) image = said (throttleOf image node which) ∷ []
@@ -95,18 +97,35 @@ answer (snap out) image = wrote (snapshotOf image out) ∷ []
 answer (cut own other) image = []
 
 unfoldable pub after : Step → Bytes → Bytes
-after (give input) image = imageAfter input image
+after (give offset input) image = imageAfter offset input image
 after (cut own other) image = cutImage own other image
 after (askTopic name out) image = image
 after (askTopicId id out) image = image
 after (askPartition name n out) image = image
 after (askBroker node out) image = image
 after askEpoch image = image
+after askOffset image = image
 after askShort image = image
 after (askFreeze name out) image = image
 after (askThrottle node which) image = image
 after (askDowngrade level out) image = image
 after (snap out) image = image
+
+-- of the offset and the record that a step gives, and `a` where it gives none
+unfoldable pub onGiven : {A : Type 0} → A → (ℕ → Bytes → A) → Step → A
+onGiven a f (give offset input) = f offset input
+onGiven a f (cut own other) = a
+onGiven a f (askTopic name out) = a
+onGiven a f (askTopicId id out) = a
+onGiven a f (askPartition name n out) = a
+onGiven a f (askBroker node out) = a
+onGiven a f askEpoch = a
+onGiven a f askOffset = a
+onGiven a f askShort = a
+onGiven a f (askFreeze name out) = a
+onGiven a f (askThrottle node which) = a
+onGiven a f (askDowngrade level out) = a
+onGiven a f (snap out) = a
 
 -- 2. Histories
 
@@ -121,12 +140,13 @@ reached (s ∷ steps) image = reached steps (after s image)
 
 unfoldable pub isCut : Step → Bool
 isCut (cut own other) = true
-isCut (give input) = false
+isCut (give offset input) = false
 isCut (askTopic name out) = false
 isCut (askTopicId id out) = false
 isCut (askPartition name n out) = false
 isCut (askBroker node out) = false
 isCut askEpoch = false
+isCut askOffset = false
 isCut askShort = false
 isCut (askFreeze name out) = false
 isCut (askThrottle node which) = false
@@ -174,23 +194,8 @@ epochMild input =
     onGot (read logged input) (λ n. true) λ r n. cond (eqb (kindNumber (r .kind)) (kindNumber FeaturesEpoch)) (not (isNegative 8 (number (value 1 (r .run))))) true
 
 -- "room never runs out": no Apply says 18
-unfoldable pub roomLasts : Bytes → Bytes → Bool
-roomLasts input image = not (admitted input image && eqb (applyOf image input .reply .number) 18)
-
--- a test of the record that a step gives; a step that gives none passes it
-unfoldable pub ofGiven : (Bytes → Bool) → Step → Bool
-ofGiven test (give input) = test input
-ofGiven test (cut own other) = true
-ofGiven test (askTopic name out) = true
-ofGiven test (askTopicId id out) = true
-ofGiven test (askPartition name n out) = true
-ofGiven test (askBroker node out) = true
-ofGiven test askEpoch = true
-ofGiven test askShort = true
-ofGiven test (askFreeze name out) = true
-ofGiven test (askThrottle node which) = true
-ofGiven test (askDowngrade level out) = true
-ofGiven test (snap out) = true
+unfoldable pub roomLasts : ℕ → Bytes → Bytes → Bool
+roomLasts offset input image = not (admitted input image && eqb (applyOf image offset input .reply .number) 18)
 
 -- the four premises apart, in the order in which the demand has them
 pub data Premise : Type 0 where
@@ -203,8 +208,8 @@ pub data Premise : Type 0 where
 unfoldable pub meetsAt : Premise → Step → Bytes → Bool
 meetsAt ids s image = idsApart (contentsOf image .real)
 meetsAt factors s image = every (factorHolds (contentsOf image .real)) (contentsOf image .real)
-meetsAt epochs s image = ofGiven epochMild s
-meetsAt room s image = ofGiven (λ input. roomLasts input image) s
+meetsAt epochs s image = onGiven true (λ offset input. epochMild input) s
+meetsAt room s image = onGiven true (λ offset input. roomLasts offset input image) s
 
 -- "at every step"
 unfoldable pub meets : Premise → List Step → Bytes → Bool
@@ -215,16 +220,17 @@ meets p (s ∷ steps) image = meetsAt p s image && meets p steps (after s image)
 unfoldable pub holds : List Step → Bytes → Bool
 holds steps image = meets ids steps image && meets factors steps image && meets epochs steps image && meets room steps image
 
--- 4. What is given: records that are bytes, and restore buffers of the image's capacity
+-- 4. What is given: records that are bytes, offsets of eight bytes, and restore buffers of the image's capacity
 
 abbrev pub StepGiven : ℕ → Step → Type 0
-StepGiven capacity (give input) = AreBytes input
+StepGiven capacity (give offset input) = AreBytes input × (offset < span 8)
 StepGiven capacity (cut own other) = length other ≡ capacity
 StepGiven capacity (askTopic name out) = Unit {0}
 StepGiven capacity (askTopicId id out) = Unit {0}
 StepGiven capacity (askPartition name n out) = Unit {0}
 StepGiven capacity (askBroker node out) = Unit {0}
 StepGiven capacity askEpoch = Unit {0}
+StepGiven capacity askOffset = Unit {0}
 StepGiven capacity askShort = Unit {0}
 StepGiven capacity (askFreeze name out) = Unit {0}
 StepGiven capacity (askThrottle node which) = Unit {0}
@@ -238,12 +244,29 @@ Given capacity (s ∷ steps) = StepGiven capacity s × Given capacity steps
 -- 5. Demand 3
 
 -- "For every history, refused steps included, wherever its cuts fall and however many there are, every other step answers exactly as in the
--- uncut history"
+-- uncut history"; 02, 5: "A cut history also agrees on the offset", that of the image behind the last step too
 abbrev pub CutsUnseen : Type 0
 CutsUnseen =
     (buffer : Bytes) → isCapacity (length buffer) ≡ true → (steps : List Step) → Given (length buffer) steps →
     holds (uncut steps) (openOf buffer .buffer) ≡ true →
-    run steps (openOf buffer .buffer) ≡ run (uncut steps) (openOf buffer .buffer)
+    (run steps (openOf buffer .buffer) ≡ run (uncut steps) (openOf buffer .buffer)) ×
+    (offsetOf (reached steps (openOf buffer .buffer)) ≡ offsetOf (reached (uncut steps) (openOf buffer .buffer)))
+
+-- 02, 5: "The image keeps the log offset (i64) of the last record applied, with effect or without (M4), -1 when fresh": that of the last step to
+-- which Validate and Apply say 0, wherever cuts fall, with no premise
+unfoldable pub offsetAfter : ℕ → Step → Bytes → ℕ
+offsetAfter before s image =
+    onGiven before (λ offset input. cond (admitted input image && eqb (applyOf image offset input .reply .number) 0) offset before) s
+
+unfoldable pub lastApplied : ℕ → List Step → Bytes → ℕ
+lastApplied before [] image = before
+lastApplied before (s ∷ steps) image = lastApplied (offsetAfter before s image) steps (after s image)
+
+abbrev pub OffsetOfLast : Type 0
+OffsetOfLast =
+    (buffer : Bytes) → isCapacity (length buffer) ≡ true → (steps : List Step) → Given (length buffer) steps →
+    let start = openOf buffer .buffer in
+    offsetOf (reached steps start) ≡ accepted (lastApplied (span 8 - 1) steps start ∷ [])
 
 -- "Without those premises, whatever image is cut becomes exactly the one that 01 names": of any image
 abbrev pub CutBecomesRestored : Type 0

@@ -6,7 +6,7 @@ use lib.Dec.{leb, eqb}
 use lib.ListN.{length, take, drop, replicate}
 use lib.Seq.{slice}
 use Rattle.model.specs.Choice.{every, joined}
-use Rattle.model.specs.Number.{Bytes, number, bytes}
+use Rattle.model.specs.Number.{Bytes, number, bytes, isOffset}
 use Rattle.model.specs.Order.{sameBytes}
 use Rattle.model.specs.Run.{value}
 use Rattle.model.specs.Kind.{kindNumber}
@@ -16,7 +16,7 @@ use Rattle.model.specs.Items.{Items, itemsOf, records, isWhole}
 use Rattle.model.specs.Contents.{Entry, topic, part, plain, kept, Fixed, Contents, fresh, fixedRoom, weight, isBare, sound}
 use Rattle.model.specs.Reply.{Ended, accepted, unchanged}
 
--- "An image lives in a lent buffer of 128 to 65,536 bytes"
+-- "An image lives in a lent buffer of 128 to 65,536 bytes"; 02, 5: the least capacity is 144
 abbrev pub leastCapacity : ℕ
 leastCapacity = fixedRoom
 
@@ -28,9 +28,9 @@ isCapacity n = leb leastCapacity n && leb n mostCapacity
 
 -- 1. From contents to bytes
 
--- the header's mark and format version, and its size
+-- the header's mark and format version, and its size. Version 2 has the log offset: "A buffer from before .. is no image"
 unfoldable pub mark : Bytes
-mark = 0x4b ∷ 0x52 ∷ 0x41 ∷ 0x42 ∷ 0x4b ∷ 0x41 ∷ 0 ∷ 1 ∷ []
+mark = 0x4b ∷ 0x52 ∷ 0x41 ∷ 0x42 ∷ 0x4b ∷ 0x41 ∷ 0 ∷ 2 ∷ []
 
 abbrev pub headSize : ℕ
 headSize = 64
@@ -38,9 +38,9 @@ headSize = 64
 abbrev pub zeros : ℕ → Bytes
 zeros n = replicate n 0
 
--- the mark, the used length, the features epoch and the kraft version
+-- the mark, the used length, the features epoch, the kraft version and the log offset
 unfoldable pub header : ℕ → Fixed → Bytes
-header used f = mark ++ bytes 4 used ++ zeros 4 ++ bytes 8 (f .epoch) ++ bytes 2 (f .kraft) ++ zeros 38
+header used f = mark ++ bytes 4 used ++ zeros 4 ++ bytes 8 (f .epoch) ++ bytes 2 (f .kraft) ++ zeros 30 ++ bytes 8 (f .offset)
 
 unfoldable pub entryBytes : Contents → Bytes
 entryBytes c = joined (λ e. recordBytes (kept e)) (c .real) ++ joined recordBytes (c .empties)
@@ -58,7 +58,7 @@ abbrev pub usedIn : Bytes → ℕ
 usedIn b = number (slice 8 12 b)
 
 abbrev pub fixedIn : Bytes → Fixed
-fixedIn b = record { epoch = number (slice 16 24 b); kraft = number (slice 24 26 b) }
+fixedIn b = record { epoch = number (slice 16 24 b); kraft = number (slice 24 26 b); offset = number (slice 56 64 b) }
 
 abbrev pub itemsIn : Bytes → Items
 itemsIn b = itemsOf stored (slice headSize (usedIn b) b)
@@ -95,12 +95,12 @@ contentsOf b =
 
 -- 3. "A buffer is an image exactly if it holds the bytes of some contents that fit it, where entries are readable, ascend by key without
 -- repeats and are such as Apply stores, each topic's count is from 0 to its stored partitions' number, and each id entry names a topic of that
--- id."
+-- id." 02, 5: "A buffer from before, or with an offset below -1, is no image."
 
 unfoldable pub headerOk : Bytes → Bool
 headerOk b =
     sameBytes (take headSize b) (header (usedIn b) (fixedIn b)) && leb headSize (usedIn b) && leb (usedIn b) (length b) &&
-    every (λ x. eqb x 0) (drop (usedIn b) b)
+    every (λ x. eqb x 0) (drop (usedIn b) b) && isOffset (fixedIn b .offset)
 
 unfoldable pub entriesOk : Bytes → Bool
 entriesOk b = isWhole (itemsIn b) && every flagReads (records (itemsIn b)) && sound (contentsOf b)
@@ -108,6 +108,6 @@ entriesOk b = isWhole (itemsIn b) && every flagReads (records (itemsIn b)) && so
 unfoldable pub isImage : Bytes → Bool
 isImage b = isCapacity (length b) && headerOk b && entriesOk b && leb (weight (contentsOf b)) (length b)
 
--- 4. *Open*: "1, capacity outside 128 to 65,536. Bytes are not checked; the fresh image replaces them."
+-- 4. *Open*: "1, capacity outside 128 to 65,536", from 144 by 02, 5. "Bytes are not checked; the fresh image replaces them."
 unfoldable pub openOf : Bytes → Ended
 openOf b = cond (isCapacity (length b)) (record { reply = accepted []; buffer = imageOf (length b) fresh }) (unchanged 1 b)

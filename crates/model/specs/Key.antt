@@ -10,10 +10,10 @@ use Rattle.model.specs.Number.{Bytes, number, place}
 use Rattle.model.specs.Order.{Key, sameBytes}
 use Rattle.model.specs.Run.{Run, runOf, field, value, values}
 use Rattle.model.specs.declared.Kind.{Kind}
-use Rattle.model.specs.declared.Kind.the-variants.{Topic, Partition, BrokerRegistration, DeleteTopic, TopicConfig, BrokerConfig, ClientQuota, ProducerIds, UnregisterBroker, KRaftVersion, FeatureLevel, ClientMetricsConfig, FeaturesEpoch}
-use Rattle.model.specs.declared.Kind.the-variants.{PartitionDirAssignment, PartitionOffsetAdvance, GroupConfig, ControllerRegistration, TopicFreeze, BreakGlassProposal, DeleteBreakGlassProposal, PartitionElr, PartitionRecovery, PartitionUpdate, BrokerRegistrationChange, UnregisterController}
+use Rattle.model.specs.declared.Kind.the-variants.{Topic, Partition, BrokerRegistration, DeleteTopic, TopicConfig, BrokerConfig, ClientQuota, ProducerIds, UnregisterBroker, KRaftVersion, FeatureLevel, ClientMetricsConfig, FeaturesEpoch, PartitionDirAssignment}
+use Rattle.model.specs.declared.Kind.the-variants.{PartitionOffsetAdvance, GroupConfig, ControllerRegistration, TopicFreeze, BreakGlassProposal, DeleteBreakGlassProposal, PartitionElr, PartitionRecovery, PartitionUpdate, BrokerRegistrationChange, UnregisterController, LogOffset}
 
--- a group's place in a snapshot, in the order of `to_records`' code; 0 for what is never in one
+-- a group's place in a snapshot, in the order of `to_records`' code; 0 for what is in no group
 unfoldable pub rank : Kind → ℕ
 rank BrokerRegistration = 1
 rank ControllerRegistration = 2
@@ -40,6 +40,7 @@ rank DeleteBreakGlassProposal = 0
 rank PartitionUpdate = 0
 rank BrokerRegistrationChange = 0
 rank UnregisterController = 0
+rank LogOffset = 0
 
 abbrev pub rankPart : Kind → Bytes
 rankPart k = rank k ∷ []
@@ -87,6 +88,7 @@ subject DeleteBreakGlassProposal r = []
 subject PartitionUpdate r = []
 subject BrokerRegistrationChange r = []
 subject UnregisterController r = []
+subject LogOffset r = []
 
 unfoldable pub keyOf : Kind → Run → Key
 keyOf k r = rankPart k ∷ subject k r

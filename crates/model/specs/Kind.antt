@@ -1,11 +1,11 @@
--- The kinds and their numbers: 01, "Kinds: 1 Topic, 2 Partition, ..".
+-- The kinds and their numbers: 01, "Kinds: 1 Topic, 2 Partition, .."; 02, 5: 26, the log offset that a snapshot starts with.
 use Prim.Native.Nat.{ℕ, zero, suc}
 use mathlib.Core.List.{List, [], _∷_}
 use mathlib.Core.Option.{Option, none}
 use lib.ListN.{getElem?}
 use Rattle.model.specs.declared.Kind.{Kind}
-use Rattle.model.specs.declared.Kind.the-variants.{Topic, Partition, BrokerRegistration, DeleteTopic, TopicConfig, BrokerConfig, ClientQuota, ProducerIds, UnregisterBroker, KRaftVersion, FeatureLevel, ClientMetricsConfig, FeaturesEpoch}
-use Rattle.model.specs.declared.Kind.the-variants.{PartitionDirAssignment, PartitionOffsetAdvance, GroupConfig, ControllerRegistration, TopicFreeze, BreakGlassProposal, DeleteBreakGlassProposal, PartitionElr, PartitionRecovery, PartitionUpdate, BrokerRegistrationChange, UnregisterController}
+use Rattle.model.specs.declared.Kind.the-variants.{Topic, Partition, BrokerRegistration, DeleteTopic, TopicConfig, BrokerConfig, ClientQuota, ProducerIds, UnregisterBroker, KRaftVersion, FeatureLevel, ClientMetricsConfig, FeaturesEpoch, PartitionDirAssignment}
+use Rattle.model.specs.declared.Kind.the-variants.{PartitionOffsetAdvance, GroupConfig, ControllerRegistration, TopicFreeze, BreakGlassProposal, DeleteBreakGlassProposal, PartitionElr, PartitionRecovery, PartitionUpdate, BrokerRegistrationChange, UnregisterController, LogOffset}
 
 -- in the order of their numbers, the first being 1
 unfoldable pub kinds : List Kind
@@ -13,9 +13,9 @@ kinds =
     Topic ∷ Partition ∷ BrokerRegistration ∷ DeleteTopic ∷ TopicConfig ∷ BrokerConfig ∷ ClientQuota ∷ ProducerIds ∷ UnregisterBroker ∷
     KRaftVersion ∷ FeatureLevel ∷ ClientMetricsConfig ∷ FeaturesEpoch ∷ PartitionDirAssignment ∷ PartitionOffsetAdvance ∷ GroupConfig ∷
     ControllerRegistration ∷ TopicFreeze ∷ BreakGlassProposal ∷ DeleteBreakGlassProposal ∷ PartitionElr ∷ PartitionRecovery ∷
-    PartitionUpdate ∷ BrokerRegistrationChange ∷ UnregisterController ∷ []
+    PartitionUpdate ∷ BrokerRegistrationChange ∷ UnregisterController ∷ LogOffset ∷ []
 
--- the kind of a number, 0 and all above 25 being none
+-- the kind of a number, 0 and all above 26 being none
 unfoldable pub kindOf : ℕ → Option Kind
 unfolding kinds
 kindOf zero = none
@@ -47,3 +47,4 @@ kindNumber PartitionRecovery = 22
 kindNumber PartitionUpdate = 23
 kindNumber BrokerRegistrationChange = 24
 kindNumber UnregisterController = 25
+kindNumber LogOffset = 26

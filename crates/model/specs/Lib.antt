@@ -38,6 +38,8 @@
 --                                                           Downgrade.ListingReadsBack, NothingWrittenAfter
 --   7, only names that Kafka allows ....................... Validate.lawfulName
 --   8, equal entity types in one order .................... Contents.entityOrder, entitiesInOrder; Quotas.QuotasMeet, OneGroup, LaterStands
+--   5, the image knows its place in the log ............... Contents.dated, Image.header, Apply.applyAt, Snapshot.offsetRec, replayRun,
+--                                                           Lookup.offsetOf; History.CutsUnseen: cut histories agree on it; OffsetOfLast
 pub mod Choice
 pub mod Number
 pub mod Text

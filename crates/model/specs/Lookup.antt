@@ -60,6 +60,10 @@ brokerOf image node out =
 unfoldable pub epochOf : Bytes → Reply
 epochOf image = cond (isImage image) (accepted (contentsOf image .fixed .epoch ∷ [])) (refused 1)
 
+-- the log offset, as the unsigned number of its bytes
+unfoldable pub offsetOf : Bytes → Reply
+offsetOf image = cond (isImage image) (accepted (contentsOf image .fixed .offset ∷ [])) (refused 1)
+
 -- "a partition is short when its ISR is smaller than the number of its replicas that are not among the adding replicas"
 abbrev pub expected : Run → ℕ
 expected r = outside (nodesOf (adding r)) (nodesOf (replicas r))

@@ -15,8 +15,8 @@ use Rattle.model.specs.Key.{rank, keyRank, keyOf, topicKey, partitionKey
 use Rattle.model.specs.Map.{put, get, remove, keep, any}
 use Rattle.model.specs.Contents.{Entry, topic, part, plain, key, recordKey, groupOf, inGroupOf, entityOrder, Fixed, Contents}
 use Rattle.model.specs.declared.Kind.{Kind}
-use Rattle.model.specs.declared.Kind.the-variants.{Topic, Partition, BrokerRegistration, DeleteTopic, TopicConfig, BrokerConfig, ClientQuota, ProducerIds, UnregisterBroker, KRaftVersion, FeatureLevel, ClientMetricsConfig, FeaturesEpoch}
-use Rattle.model.specs.declared.Kind.the-variants.{PartitionDirAssignment, PartitionOffsetAdvance, GroupConfig, ControllerRegistration, TopicFreeze, BreakGlassProposal, DeleteBreakGlassProposal, PartitionElr, PartitionRecovery, PartitionUpdate, BrokerRegistrationChange, UnregisterController}
+use Rattle.model.specs.declared.Kind.the-variants.{Topic, Partition, BrokerRegistration, DeleteTopic, TopicConfig, BrokerConfig, ClientQuota, ProducerIds, UnregisterBroker, KRaftVersion, FeatureLevel, ClientMetricsConfig, FeaturesEpoch, PartitionDirAssignment}
+use Rattle.model.specs.declared.Kind.the-variants.{PartitionOffsetAdvance, GroupConfig, ControllerRegistration, TopicFreeze, BreakGlassProposal, DeleteBreakGlassProposal, PartitionElr, PartitionRecovery, PartitionUpdate, BrokerRegistrationChange, UnregisterController, LogOffset}
 
 -- 1. Moves
 
@@ -139,9 +139,9 @@ unfoldable pub bumped : ℕ → ℕ
 bumped e = cond (isNegative 8 e) 0 (cond (ltb (e + 1) (half 8)) (e + 1) e)
 
 unfoldable pub onFixed : Move → Fixed → Fixed
-onFixed bumpM f = record { epoch = bumped (f .epoch); kraft = f .kraft }
-onFixed (epochM e) f = record { epoch = e; kraft = f .kraft }
-onFixed (kraftM v) f = record { epoch = f .epoch; kraft = v }
+onFixed bumpM f = record { epoch = bumped (f .epoch); kraft = f .kraft; offset = f .offset }
+onFixed (epochM e) f = record { epoch = e; kraft = f .kraft; offset = f .offset }
+onFixed (kraftM v) f = record { epoch = f .epoch; kraft = v; offset = f .offset }
 onFixed (putM r) f = f
 onFixed (dropM k) f = f
 onFixed (joinM r) f = f
@@ -327,6 +327,7 @@ plan PartitionUpdate f l = updateMoves f
 plan BrokerRegistrationChange f l =
     cond (atEpoch (value 2 f) (brokerAt (value 1 f) l)) (putM (rec BrokerRegistration (changedBroker f (orDone (brokerAt (value 1 f) l)))) ∷ []) []
 plan UnregisterController f l = dropM (nodeKey ControllerRegistration (value 1 f)) ∷ []
+plan LogOffset f l = []
 
 unfoldable pub moved : Rec → Contents → Contents
 moved r c = moves (plan (r .kind) (r .run) (c .real)) c

@@ -8,7 +8,7 @@ use Rattle.model.specs.Choice.{given, isEmpty, lastOf}
 use Rattle.model.specs.Number.{Bytes, AreBytes}
 use Rattle.model.specs.Order.{Key, compareKeys, sameBytes, isSame}
 use Rattle.model.specs.Run.{Run, field, value, values}
-use Rattle.model.specs.Shape.{logged}
+use Rattle.model.specs.Shape.{framed}
 use Rattle.model.specs.Record.{Rec, rec}
 use Rattle.model.specs.Items.{itemsOf, records}
 use Rattle.model.specs.Key.{groupKey}
@@ -70,9 +70,9 @@ abbrev pub OneGroup : Type 0
 OneGroup = (image : Bytes) → AreBytes image → isImage image ≡ true → InOneGroup (contentsOf image)
 
 -- "An old snapshot that holds both spellings, where Restore takes it, gives one group; for each quota key the later record's value stands." The
--- last record of a quota in the run may stand anywhere in it, and leaves no value where it has none.
+-- last record of a quota in the run may stand anywhere in it, and leaves no value where it has none. By 02, 5, the run starts with kind 26.
 abbrev pub LaterStands : Type 0
 LaterStands =
     (run b : Bytes) → AreBytes run → restoreOf run b .reply ≡ accepted [] →
     let c = contentsOf (restoreOf run b .buffer) in
-    InOneGroup c × ((f : Run) → quotaValue f c ≡ given (lastOf (isQuotaOf f) (records (itemsOf logged run))) none (λ r. field 3 (r .run)))
+    InOneGroup c × ((f : Run) → quotaValue f c ≡ given (lastOf (isQuotaOf f) (records (itemsOf framed run))) none (λ r. field 3 (r .run)))

@@ -9,7 +9,7 @@ use Rattle.model.specs.Number.{Bytes, bytes}
 use Rattle.model.specs.Run.{Run, done, torn, item, runOf, bytesOf, value}
 use Rattle.model.specs.Kind.{kindOf, kindNumber}
 use Rattle.model.specs.Nodes.{nodesOf, noRepeats}
-use Rattle.model.specs.Shape.{Source, logged, fault}
+use Rattle.model.specs.Shape.{Source, framed, fault}
 use Rattle.model.specs.Reply.{Reply, accepted, refused, Ended, unchanged, emitBytes}
 use Rattle.model.specs.declared.Kind.{Kind}
 
@@ -50,9 +50,9 @@ abbrev pub onGot : {A : Type 0} → Got → (ℕ → A) → (Rec → ℕ → A) 
 onGot (bad n) f g = f n
 onGot (got r used) f g = g r used
 
--- "Success says the bytes used"
+-- "Success says the bytes used". Read and Write know all 26 kinds.
 unfoldable pub readOf : Bytes → Reply
-readOf s = onGot (read logged s) refused (λ r used. accepted (used ∷ []))
+readOf s = onGot (read framed s) refused (λ r used. accepted (used ∷ []))
 
 -- 02, 2: "Reading Partition and PartitionUpdate promises a replica list without repeats"
 unfoldable pub apartBy : ℕ → Run → Bool
@@ -84,8 +84,8 @@ abbrev pub writing : ℕ → Rec → Bytes → Ended
 writing zero r out = emitBytes (recordBytes r) out
 writing (suc n) r out = unchanged (suc n) out
 
--- *Write*: "4 and 5 of the given values, in field order; then 19"; 02, 2: 20 directly after them
+-- *Write*: "4 and 5 of the given values, in field order; then 19"; 02, 2: 20 directly after those of its field
 unfoldable pub writeOf : Kind → Bytes → List ℕ → Bytes → Bytes → Ended
 writeOf kind tags lengths vals out =
     let run = gathered tags lengths vals in
-    writing (fault logged kind run) (rec kind run) out
+    writing (fault framed kind run) (rec kind run) out

@@ -8,15 +8,15 @@ use lib.Dec.{leb, ltb, eqb}
 use lib.ListN.{length, drop, getElem?}
 use lib.Seq.{slice}
 use Rattle.model.specs.Choice.{orThen, unless, given}
-use Rattle.model.specs.Number.{Bytes}
+use Rattle.model.specs.Number.{Bytes, number, isOffset}
 use Rattle.model.specs.Text.{isText}
 use Rattle.model.specs.Order.{compareBytes, isBelow}
 use Rattle.model.specs.Run.{Run, done, torn, item, runOf, field}
 use Rattle.model.specs.Nodes.{nodesOf, noRepeats}
 use Rattle.model.specs.Kind.{kindNumber}
 use Rattle.model.specs.declared.Kind.{Kind}
-use Rattle.model.specs.declared.Kind.the-variants.{Topic, Partition, BrokerRegistration, DeleteTopic, TopicConfig, BrokerConfig, ClientQuota, ProducerIds, UnregisterBroker, KRaftVersion, FeatureLevel, ClientMetricsConfig, FeaturesEpoch}
-use Rattle.model.specs.declared.Kind.the-variants.{PartitionDirAssignment, PartitionOffsetAdvance, GroupConfig, ControllerRegistration, TopicFreeze, BreakGlassProposal, DeleteBreakGlassProposal, PartitionElr, PartitionRecovery, PartitionUpdate, BrokerRegistrationChange, UnregisterController}
+use Rattle.model.specs.declared.Kind.the-variants.{Topic, Partition, BrokerRegistration, DeleteTopic, TopicConfig, BrokerConfig, ClientQuota, ProducerIds, UnregisterBroker, KRaftVersion, FeatureLevel, ClientMetricsConfig, FeaturesEpoch, PartitionDirAssignment}
+use Rattle.model.specs.declared.Kind.the-variants.{PartitionOffsetAdvance, GroupConfig, ControllerRegistration, TopicFreeze, BreakGlassProposal, DeleteBreakGlassProposal, PartitionElr, PartitionRecovery, PartitionUpdate, BrokerRegistrationChange, UnregisterController, LogOffset}
 
 -- 1. Rows
 
@@ -30,11 +30,12 @@ pub data Shape : Type 0 where
   pair : Shape
   feature : Shape
 
--- a value: a fixed width; a byte below a bound; UTF-8, a map's key and any bytes, each up to a limit; numbers of a width, up to a limit; a
--- run of a shape's fields
+-- a value: a fixed width; a byte below a bound; a log offset; UTF-8, a map's key and any bytes, each up to a limit; numbers of a width, up to
+-- a limit; a run of a shape's fields
 pub data Form : Type 0 where
   fixed : ℕ → Form
   below : ℕ → Form
+  offset : Form
   text : ℕ → Form
   mapKey : ℕ → Form
   raw : ℕ → Form
@@ -153,6 +154,7 @@ rowsOf (recordOf PartitionRecovery) = must string ∷ must i32 ∷ must (below 2
 rowsOf (recordOf PartitionUpdate) = must (nested (recordOf Partition)) ∷ may nodes ∷ may nodes ∷ may (below 2) ∷ []
 rowsOf (recordOf BrokerRegistrationChange) = must u64 ∷ must i64 ∷ must (below 3) ∷ must bool ∷ must uuids ∷ may uuids ∷ []
 rowsOf (recordOf UnregisterController) = must u64 ∷ []
+rowsOf (recordOf LogOffset) = must offset ∷ []
 rowsOf storedTopic = must string ∷ must uuid ∷ must i32 ∷ must i16 ∷ must (fixed 5) ∷ []
 rowsOf endpoint = must string ∷ must string ∷ must u16 ∷ must (below 4) ∷ []
 rowsOf approval = must string ∷ must i64 ∷ must string ∷ must (raw signatureLimit) ∷ []
@@ -229,6 +231,7 @@ textFault limit v = orThen (unless (isText v) 4) (unless (leb (length v) limit) 
 unfoldable pub leafFault : Option Bytes → Form → Bytes → ℕ
 leafFault prior (fixed width) v = unless (eqb (length v) width) 4
 leafFault prior (below bound) v = unless (isBelowByte bound v) 4
+leafFault prior offset v = unless (eqb (length v) 8 && isOffset (number v)) 4
 leafFault prior (text limit) v = textFault limit v
 leafFault prior (mapKey limit) v = orThen (unless (isText v) 4) (orThen (unless (ascends prior v) 4) (unless (leb (length v) limit) 5))
 leafFault prior (raw limit) v = unless (leb (length v) limit) 5
@@ -256,6 +259,7 @@ nestedFault prior s v = runFault (λ k f w. leafFault prior f w) (rowsOf s) star
 unfoldable pub valueFault : Option Bytes → Form → Bytes → ℕ
 valueFault prior (fixed width) v = leafFault prior (fixed width) v
 valueFault prior (below bound) v = leafFault prior (below bound) v
+valueFault prior offset v = leafFault prior offset v
 valueFault prior (text limit) v = leafFault prior (text limit) v
 valueFault prior (mapKey limit) v = leafFault prior (mapKey limit) v
 valueFault prior (raw limit) v = leafFault prior (raw limit) v
@@ -263,15 +267,24 @@ valueFault prior (list width limit) v = leafFault prior (list width limit) v
 valueFault prior (nodeSet limit) v = leafFault prior (nodeSet limit) v
 valueFault prior (nested s) v = nestedFault prior s v
 
--- where a record stands: in the log that operations are given, or in an image, whose topics have one field more
+-- where a record stands: in the log, as Validate and Apply are given it; in an image, whose topics have one field more; or by itself and in
+-- a snapshot, as Read, Write and Restore know it (`framed`), of 26 kinds
 pub data Source : Type 0 where
   logged : Source
   stored : Source
+  framed : Source
 
 unfoldable pub shapeOf : Source → Kind → Shape
 shapeOf logged k = recordOf k
+shapeOf framed k = recordOf k
 shapeOf stored k = cond (eqb (kindNumber k) 1) storedTopic (recordOf k)
 
--- what is wrong with a record's fields: 0 nothing, else 4, 5 or 20
+-- 02, 5: "to Validate and Apply that kind is 3", whatever its fields, and no image stores it
+abbrev pub unknown : Source → Kind → ℕ
+unknown logged k = cond (eqb (kindNumber k) 26) 3 0
+unknown stored k = cond (eqb (kindNumber k) 26) 3 0
+unknown framed k = 0
+
+-- what is wrong with a record's fields: 0 nothing, else 3, 4, 5 or 20
 abbrev pub fault : Source → Kind → Run → ℕ
-fault source kind run = runFault valueFault (rowsOf (shapeOf source kind)) start run
+fault source kind run = orThen (unknown source kind) (runFault valueFault (rowsOf (shapeOf source kind)) start run)

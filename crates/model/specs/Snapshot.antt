@@ -1,5 +1,5 @@
 -- *Snapshot*, *Restore*, and the restored image.
-use Prim.Native.Nat.{ℕ, zero, suc, _+_, _-_}
+use Prim.Native.Nat.{ℕ, zero, suc, _-_}
 use mathlib.Core.Bool.{Bool, cond}
 use mathlib.Core.List.{List, [], _∷_, _++_, map}
 use lib.Dec.{eqb}
@@ -7,18 +7,19 @@ use lib.ListN.{length}
 use Rattle.model.specs.Choice.{joined, folded, total}
 use Rattle.model.specs.Number.{Bytes, number, bytes, span, isNegative}
 use Rattle.model.specs.Order.{Key, sameBytes}
-use Rattle.model.specs.Run.{done, item}
-use Rattle.model.specs.Shape.{logged}
+use Rattle.model.specs.Run.{done, item, value}
+use Rattle.model.specs.Kind.{kindNumber}
+use Rattle.model.specs.Shape.{framed}
 use Rattle.model.specs.Record.{Rec, rec, recordBytes}
 use Rattle.model.specs.Key.{rank, keyRank}
 use Rattle.model.specs.Map.{count}
 use Rattle.model.specs.Items.{Items, end, bad, item as record-item, itemsOf}
-use Rattle.model.specs.Contents.{Entry, topic, part, plain, returned, key, Fixed, Contents, fresh, partitions}
+use Rattle.model.specs.Contents.{Entry, topic, part, plain, returned, key, Fixed, Contents, fresh, dated, partitions}
 use Rattle.model.specs.Image.{isCapacity, isImage, contentsOf, imageOf}
 use Rattle.model.specs.Move.{partitionTopic, replicas, nodeCount}
 use Rattle.model.specs.Apply.{Applied, stays, becomes, apply}
 use Rattle.model.specs.Reply.{Reply, accepted, Ended, unchanged, emitBytes}
-use Rattle.model.specs.declared.Kind.the-variants.{FeatureLevel, FeaturesEpoch, KRaftVersion}
+use Rattle.model.specs.declared.Kind.the-variants.{FeatureLevel, FeaturesEpoch, KRaftVersion, LogOffset}
 
 -- 1. Snapshot
 
@@ -30,10 +31,14 @@ emit rs out = emitBytes (joined recordBytes rs) out
 abbrev pub lengths : List Rec → ℕ
 lengths rs = total (λ r. length (recordBytes r)) rs
 
--- the records before the entries' (none), and after them: the epoch unless it is negative, the kraft version unless it is 0
-abbrev pub lead : Fixed → List Rec
-lead f = []
+-- 02, 5: "The snapshot starts with kind 26 (tag 1, the offset ..)"
+abbrev pub offsetRec : ℕ → Rec
+offsetRec n = rec LogOffset (item 1 (bytes 8 n) done)
 
+abbrev pub isOffsetRec : Rec → Bool
+isOffsetRec r = eqb (kindNumber (r .kind)) 26
+
+-- the records after the entries': the epoch unless it is negative, the kraft version unless it is 0
 unfoldable pub epochRecords : ℕ → List Rec
 epochRecords e = cond (isNegative 8 e) [] (rec FeaturesEpoch (item 1 (bytes 8 e) done) ∷ [])
 
@@ -43,8 +48,12 @@ kraftRecords v = cond (eqb v 0) [] (rec KRaftVersion (item 1 (bytes 2 v) done) �
 abbrev pub trail : Fixed → List Rec
 trail f = epochRecords (f .epoch) ++ kraftRecords (f .kraft)
 
+-- a snapshot apart from the offset
+unfoldable pub body : Contents → List Rec
+body c = map returned (c .real) ++ trail (c .fixed)
+
 unfoldable pub snapshot : Contents → List Rec
-snapshot c = lead (c .fixed) ++ map returned (c .real) ++ trail (c .fixed)
+snapshot c = offsetRec (c .fixed .offset) ∷ body c
 
 unfoldable pub snapshotOf : Bytes → Bytes → Ended
 snapshotOf image out = cond (isImage image) (emit (snapshot (contentsOf image)) out) (unchanged 1 out)
@@ -66,15 +75,24 @@ onApplied (becomes c) f g = g c
 unfoldable pub replay : ℕ → Items → Contents → Replayed
 replay capacity end c = record { reply = accepted []; contents = c }
 replay capacity (bad n place) c = stopped n place c
-replay capacity (record-item place r rest) c = onApplied (apply capacity r c) (λ n. stopped n place c) (replay capacity rest)
+replay capacity (record-item place r rest) c =
+    cond (isOffsetRec r) (stopped 22 place c) (onApplied (apply capacity r c) (λ n. stopped n place c) (replay capacity rest))
+
+-- 02, 5: "Restore sets it from there; records inside a snapshot carry none"; "22 in Restore, kind 26 is missing at the start or stands later,
+-- directly after that record's Read's (no records: 22 at place 0, image fresh)"
+unfoldable pub replayRun : ℕ → Items → Replayed
+replayRun capacity end = stopped 22 0 fresh
+replayRun capacity (bad n place) = stopped n place fresh
+replayRun capacity (record-item place r rest) =
+    cond (isOffsetRec r) (replay capacity rest (dated (number (value 1 (r .run))) fresh)) (stopped 22 place fresh)
 
 -- "1 on capacity; then each record as in Apply. A record's refusal adds that record's first byte's place, and the buffer holds the image of the
--- records before it; 1 adds no place and changes nothing. No records give a fresh image."
+-- records before it; 1 adds no place and changes nothing." 02, 5, takes the place of its "No records give a fresh image".
 abbrev pub laidOut : ℕ → Replayed → Ended
 laidOut capacity d = record { reply = d .reply; buffer = imageOf capacity (d .contents) }
 
 unfoldable pub restoreOf : Bytes → Bytes → Ended
-restoreOf input b = cond (isCapacity (length b)) (laidOut (length b) (replay (length b) (itemsOf logged input) fresh)) (unchanged 1 b)
+restoreOf input b = cond (isCapacity (length b)) (laidOut (length b) (replayRun (length b) (itemsOf framed input))) (unchanged 1 b)
 
 -- 3. The restored image
 
@@ -122,5 +140,5 @@ unfoldable pub restored : Contents → Contents
 restored c = record {
   real = map (restoredEntry (c .real)) (c .real);
   empties = [];
-  fixed = record { epoch = restoredEpoch (levels (c .real)) (c .fixed .epoch); kraft = c .fixed .kraft };
+  fixed = record { epoch = restoredEpoch (levels (c .real)) (c .fixed .epoch); kraft = c .fixed .kraft; offset = c .fixed .offset };
 }

@@ -19,8 +19,8 @@ use Rattle.model.specs.Image.{isImage, contentsOf}
 use Rattle.model.specs.Move.{runAt, brokerAt, atEpoch, storedNext, isAbove}
 use Rattle.model.specs.Reply.{Reply, refused}
 use Rattle.model.specs.declared.Kind.{Kind}
-use Rattle.model.specs.declared.Kind.the-variants.{Topic, Partition, BrokerRegistration, DeleteTopic, TopicConfig, BrokerConfig, ClientQuota, ProducerIds, UnregisterBroker, KRaftVersion, FeatureLevel, ClientMetricsConfig, FeaturesEpoch}
-use Rattle.model.specs.declared.Kind.the-variants.{PartitionDirAssignment, PartitionOffsetAdvance, GroupConfig, ControllerRegistration, TopicFreeze, BreakGlassProposal, DeleteBreakGlassProposal, PartitionElr, PartitionRecovery, PartitionUpdate, BrokerRegistrationChange, UnregisterController}
+use Rattle.model.specs.declared.Kind.the-variants.{Topic, Partition, BrokerRegistration, DeleteTopic, TopicConfig, BrokerConfig, ClientQuota, ProducerIds, UnregisterBroker, KRaftVersion, FeatureLevel, ClientMetricsConfig, FeaturesEpoch, PartitionDirAssignment}
+use Rattle.model.specs.declared.Kind.the-variants.{PartitionOffsetAdvance, GroupConfig, ControllerRegistration, TopicFreeze, BreakGlassProposal, DeleteBreakGlassProposal, PartitionElr, PartitionRecovery, PartitionUpdate, BrokerRegistrationChange, UnregisterController, LogOffset}
 
 -- 6 `TopicExists`: "a stored name with another id or replication factor, or a record count not above the stored partitions' number"
 unfoldable pub topicExists : Run → ℕ → Option Entry → ℕ
@@ -87,6 +87,7 @@ alone PartitionRecovery f = 0
 alone PartitionUpdate f = 0
 alone BrokerRegistrationChange f = 0
 alone UnregisterController f = 0
+alone LogOffset f = 0
 
 -- what the stored entries say of it
 unfoldable pub against : Kind → Run → List Entry → ℕ
@@ -116,6 +117,7 @@ against GroupConfig f l = 0
 against ControllerRegistration f l = 0
 against TopicFreeze f l = 0
 against DeleteBreakGlassProposal f l = 0
+against LogOffset f l = 0
 
 unfoldable pub judge : Rec → List Entry → ℕ
 judge r l = orThen (alone (r .kind) (r .run)) (against (r .kind) (r .run) l)

@@ -48,3 +48,5 @@ pub const PARTITION_UPDATE: u8 = 23;
 pub const BROKER_REGISTRATION_CHANGE: u8 = 24;
 
 pub const UNREGISTER_CONTROLLER: u8 = 25;
+
+pub const LOG_OFFSET: u8 = 26;

@@ -3,7 +3,7 @@ pub mod answers;
 pub mod kinds;
 pub mod refusals;
 
-// The 25 kinds of record that move an image, by the Rust's names.
+// The kinds of record: 25 that move an image, by the Rust's names, and the log offset that a snapshot starts with.
 pub enum Kind {
     Topic,
     Partition,
@@ -30,6 +30,7 @@ pub enum Kind {
     PartitionUpdate,
     BrokerRegistrationChange,
     UnregisterController,
+    LogOffset,
 }
 
 // How two byte strings, or two keys, stand to each other.

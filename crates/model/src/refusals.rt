@@ -52,5 +52,11 @@ pub const TOO_SHORT: u8 = 19;
 // Read and Write: a node listed twice in the replicas, directly after 4 and 5 of that field.
 pub const REPEATED: u8 = 20;
 
+// Apply: a log offset not above the stored one, directly after Read's.
+pub const NOT_LATER: u8 = 21;
+
+// Restore: the log offset is missing at the start or stands later, directly after that record's Read's.
+pub const MISPLACED_OFFSET: u8 = 22;
+
 // Validate: a topic's name that is unlawful, after Read's and before 6.
 pub const UNLAWFUL_NAME: u8 = 24;

@@ -40,6 +40,7 @@ pub fn kind_of(number: u8) -> Numbered
         kinds::PARTITION_UPDATE => Numbered::Kind(Kind::PartitionUpdate),
         kinds::BROKER_REGISTRATION_CHANGE => Numbered::Kind(Kind::BrokerRegistrationChange),
         kinds::UNREGISTER_CONTROLLER => Numbered::Kind(Kind::UnregisterController),
-        0 | 26..=255 => Numbered::Unknown,
+        kinds::LOG_OFFSET => Numbered::Kind(Kind::LogOffset),
+        0 | 27..=255 => Numbered::Unknown,
     }
 }

@@ -59,14 +59,14 @@ module _ (source : Source) where
 
     module _ (fits : n ≤ length s - 3) {base : ℕ} (eb : base ≡ kindBase source (getD s 0 0)) where
       pub read-unknown : base ≡ rowCount → refused 3 ≡ gotReply (read source s)
-      read-unknown k = rw (opened s n h en, le-ltb _ _ fits, no-kind source (getD s 0 0) eb k)
+      read-unknown k = rw (opened s n h en, le-ltb _ _ fits, no-kind source (getD s 0 0) eb k (runOf (slice 3 (3 + n) s)) (3 + n))
 
       module _ (known : base ≡ rowCount → ⊥) {f : ℕ} (ef : f ≡ runFault (checkAt false none) (rowsFrom base) start (runOf (slice 3 (3 + n) s))) where
         whole-read : (r : Rec) × (read source s ≡ whole f r (3 + n))
         whole-read =
             let k = some-kind source (getD s 0 0) eb known in
             let run = runOf (slice 3 (3 + n) s) in
-            let e = ef ∙ kind-fault source (k .0) (k .2) run in
+            let e = ef ∙ kind-fault source (k .0) (k .2) (k .3) run in
             (rec (k .0) run, opened s n h en ∙ rw (le-ltb _ _ fits, k .1, e))
 
         pub read-faulty : (f ≡ 0 → ⊥) → refused f ≡ gotReply (read source s)

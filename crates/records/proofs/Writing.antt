@@ -8,7 +8,7 @@ use lib.ListN.{length, drop}
 use Rattle.model.specs.Kind.{kindNumber}
 use Rattle.model.specs.Number.{Bytes}
 use Rattle.model.specs.Run.{Run, bytesOf}
-use Rattle.model.specs.Shape.{logged, fault}
+use Rattle.model.specs.Shape.{framed, fault}
 use Rattle.model.specs.Record.{Rec, rec, recordBytes, gathered, writing, writeOf}
 use Rattle.model.specs.Reply.{Reply, accepted, refused, Ended, unchanged, emitBytes}
 use Rattle.model.specs.declared.Kind.{Kind}
@@ -31,7 +31,7 @@ written-start out s = rw zero-add
 both : {reply : Reply} {buffer : Bytes} (w : Ended) → record { reply = reply; buffer = buffer } ≡ w → (reply ≡ w .reply) × (buffer ≡ w .buffer)
 both w e = (ap (λ (x : Ended). x .reply) e, ap (λ (x : Ended). x .buffer) e)
 
-module _ (kind : Kind) (tags : Bytes) (lengths : List ℕ) (values : Bytes) {f : ℕ} (ef : f ≡ fault logged kind (gathered tags lengths values)) where
+module _ (kind : Kind) (tags : Bytes) (lengths : List ℕ) (values : Bytes) {f : ℕ} (ef : f ≡ fault framed kind (gathered tags lengths values)) where
   abbrev run : Run
   run = gathered tags lengths values
 
@@ -45,17 +45,17 @@ module _ (kind : Kind) (tags : Bytes) (lengths : List ℕ) (values : Bytes) {f :
       both (writeOf kind tags lengths values out) (writing-refused f (rec kind run) out n ∙ ap (λ (g : ℕ). writing g (rec kind run) out) ef)
 
   module _ (z : f ≡ 0) where
-    passes : fault logged kind run ≡ 0
+    passes : fault framed kind run ≡ 0
     passes = sym ef ∙ z
 
     pub fields-whole : Whole run
-    fields-whole = fault-whole logged kind run passes
+    fields-whole = fault-whole framed kind run passes
 
     body-bytes : length (bytesOf run) ≡ bodyLength lengths
     body-bytes = gathered-body tags lengths values fields-whole
 
     pub body-short : bodyLength lengths < 65536
-    body-short = omega (arith, body-bytes, fault-length logged kind run passes)
+    body-short = omega (arith, body-bytes, fault-length framed kind run passes)
 
     module _ {len : ℕ} (el : len ≡ bodyLength lengths) where
       pub body-is : length (bytesOf run) ≡ len

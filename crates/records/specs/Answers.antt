@@ -1,21 +1,23 @@
 -- What Read answers by what was read. What Write writes, and how long it is.
 use mathlib.Core.List.{List, [], _∷_, _++_}
-use mathlib.Core.Bool.{Bool, true, false}
 use Prim.Native.Nat.{ℕ, _+_}
 use lib.ListN.{length, take, drop}
 use Rattle.model.specs.Number.{Bytes, bytes}
 use Rattle.model.specs.Record.{Got, onGot}
-use Rattle.model.specs.Shape.{Source, logged, stored}
+use Rattle.model.specs.Shape.{Source, logged, stored, framed}
 use Rattle.model.specs.Reply.{Reply, accepted, refused}
+use Rattle.records.specs.declared.Source.{Source as Standing}
+use Rattle.records.specs.declared.Source.the-variants.{Logged, Stored, Framed}
 
 -- what is read, as a reply
 abbrev pub gotReply : Got → Reply
 gotReply g = onGot g refused (λ r used. accepted (used ∷ []))
 
--- where a record stands, by the code's flag
-abbrev pub sourceOf : Bool → Source
-sourceOf false = logged
-sourceOf true = stored
+-- where a record stands, as the code has it
+abbrev pub sourceOf : Standing → Source
+sourceOf Logged = logged
+sourceOf Stored = stored
+sourceOf Framed = framed
 
 -- the length of fields' bytes, by the lengths of their values
 unfoldable pub bodyLength : List ℕ → ℕ

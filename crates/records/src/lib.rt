@@ -12,6 +12,7 @@ use shape_faults::no_key;
 pub use shape_faults::text_fault;
 use shapes::all_rows;
 use shapes::base_of;
+use shapes::framed_base_of;
 use shapes::stored_base_of;
 use wire::get16;
 ghost use mathlib.Core.Path.{_≡_};
@@ -21,27 +22,36 @@ ghost use Prim.Native.Nat.{_+_, _<_, _≤_};
 ghost use lib.ListN.{length};
 ghost use Rattle.model.specs.Kind.{kindNumber};
 ghost use Rattle.model.specs.Run.{bytesOf};
-ghost use Rattle.model.specs.Shape.{logged, fault};
+ghost use Rattle.model.specs.Shape.{logged, framed, fault};
 ghost use Rattle.model.specs.Record.{read as readFrom, readOf, beginsApart, gathered, writeOf};
 ghost use Rattle.laws_records.specs.Runs.{Whole};
 ghost use Rattle.shapes.specs.Table.{table, kindBase};
 ghost use Rattle.model.specs.Answers.{replied};
 ghost use Rattle.records.specs.Answers.{gotReply, sourceOf, bodyLength, putAt, head};
 
-// Where a record's rows begin in the table: as it stands in the log, or in an image.
-fn base_from(kind: u8, in_image: bool) -> usize
-    ensures { λ r. ⌜ r ≡ kindBase (sourceOf «in_image») kind ⌝ }
-{
-    if in_image {
-        return stored_base_of(kind);
-    }
-    base_of(kind)
+// Where a record stands: in the log, as Validate and Apply are given it; in an image, whose topics have one field more; or by itself and in a
+// snapshot, which may start with the log offset.
+pub enum Source {
+    Logged,
+    Stored,
+    Framed,
 }
 
-// Reads the record at the start of `s`, as it stands in the log or in an image, by the table that is lent. Later bytes are not looked at.
-pub fn read_from(rows: &[u32], s: &[u8], in_image: bool) -> Answer
+// Where a record's rows begin in the table.
+fn base_from(kind: u8, source: Source) -> usize
+    ensures { λ r. ⌜ r ≡ kindBase (sourceOf source) kind ⌝ }
+{
+    match source {
+        Source::Logged => base_of(kind),
+        Source::Stored => stored_base_of(kind),
+        Source::Framed => framed_base_of(kind),
+    }
+}
+
+// Reads the record at the start of `s`, by where it stands and by the table that is lent. Later bytes are not looked at.
+pub fn read_from(rows: &[u32], s: &[u8], source: Source) -> Answer
     requires { ⌜ now rows ≡ table ⌝ }
-    ensures { λ r. ⌜ replied r ≡ gotReply (readFrom (sourceOf «in_image») (now (s .entry))) ⌝ }
+    ensures { λ r. ⌜ replied r ≡ gotReply (readFrom (sourceOf source) (now (s .entry))) ⌝ }
 {
     if s.len() < 3 {
         return Answer::Refused(PAST_THE_END);
@@ -50,7 +60,7 @@ pub fn read_from(rows: &[u32], s: &[u8], in_image: bool) -> Answer
     if s.len() - 3 < len {
         return Answer::Refused(PAST_THE_END);
     }
-    let base = base_from(s[0], in_image);
+    let base = base_from(s[0], source);
     if base == shapes::ROW_COUNT {
         return Answer::Refused(UNKNOWN_KIND);
     }
@@ -68,7 +78,15 @@ pub fn read(s: &[u8]) -> Answer
     ensures { λ r. ⌜ (replied r .number ≡ 0 → beginsApart (now (s .entry)) ≡ true) ⌝ }
 {
     let rows = all_rows();
-    read_from(&rows, s, false)
+    read_from(&rows, s, Source::Framed)
+}
+
+// The same of a record in the log, as Validate and Apply are given it: the log offset is no kind there.
+pub fn read_logged(s: &[u8]) -> Answer
+    ensures { λ r. ⌜ replied r ≡ gotReply (readFrom logged (now (s .entry))) ⌝ }
+{
+    let rows = all_rows();
+    read_from(&rows, s, Source::Logged)
 }
 
 // A kind's number.
@@ -101,15 +119,22 @@ pub fn kind_number(kind: Kind) -> u8
         Kind::PartitionUpdate => kinds::PARTITION_UPDATE,
         Kind::BrokerRegistrationChange => kinds::BROKER_REGISTRATION_CHANGE,
         Kind::UnregisterController => kinds::UNREGISTER_CONTROLLER,
+        Kind::LogOffset => kinds::LOG_OFFSET,
     }
 }
 
 // What is wrong with the fields of three lists in a record of a kind.
 fn fields_fault(kind: Kind, tags: &[u8], lengths: &[u16], values: &[u8]) -> u8
-    ensures { λ r. ⌜ r ≡ fault logged kind (gathered (now (tags .entry)) (now (lengths .entry)) (now (values .entry))) ⌝ }
+    ensures { λ r. ⌜ r ≡ fault framed kind (gathered (now (tags .entry)) (now (lengths .entry)) (now (values .entry))) ⌝ }
 {
     let rows = all_rows();
-    given_faults(&rows, base_of(kind_number(kind)), tags, lengths, values)
+    given_faults(
+        &rows,
+        framed_base_of(kind_number(kind)),
+        tags,
+        lengths,
+        values,
+    )
 }
 
 // How long the bytes of some fields are.

@@ -1,25 +1,27 @@
 -- Restore: the first record of an input, what a run over records reaches, turn by turn, and what is laid out of it.
 use mathlib.Core.Path.{_≡_, refl, sym, ap, _∙_, subst}
-use mathlib.Core.Bool.{Bool, true, false, not}
+use mathlib.Core.Bool.{Bool, true, false, cond, not}
 use mathlib.Core.List.{[], _∷_, _++_, append-assoc, append-nil}
 use Prim.Native.Nat.{ℕ, _+_, _-_, _≤_, _<_}
 use native.Mathlib.Omega.{arith}
 use borrow.Author.Tests.{not-true, not-false}
 use lib.ListN.{length, take, drop, length-drop, take-append-drop}
 use lib.Seq.{take-all, take-add, drop-at, length-take-le}
-use Rattle.model.specs.Number.{Bytes, AreBytes, span}
-use Rattle.model.specs.Shape.{logged}
-use Rattle.model.specs.Record.{Rec, bad, got, read, readOf}
+use Rattle.model.specs.Number.{Bytes, AreBytes, number, span, isOffset}
+use Rattle.model.specs.Shape.{logged, framed}
+use Rattle.model.specs.Run.{value}
+use Rattle.model.specs.Record.{Rec, got, read}
 use Rattle.model.specs.Items.{itemsFrom, records, isWhole}
-use Rattle.model.specs.Contents.{Contents, fresh}
+use Rattle.model.specs.Contents.{Contents, fresh, dated}
 use Rattle.model.specs.Image.{isCapacity, headSize, imageOf}
 use Rattle.model.specs.Reply.{Reply, accepted, refused}
 use Rattle.model.specs.Apply.{apply}
 use Rattle.model.specs.Snapshot.{Replayed, stopped, onApplied, replay, restoreOf}
 use Rattle.laws.specs.Choice.{impossible}
 use Rattle.laws_records.specs.Records.{reads}
-use Rattle.laws_records.specs.Items.{items-got, items-bad}
+use Rattle.laws_records.specs.Items.{items-got}
 use Rattle.laws_image.specs.Tests.{capacity-least}
+use Rattle.laws_image.specs.Fits.{dated-fits}
 use Rattle.laws_image.specs.Open.{fresh-fits}
 use Rattle.laws_apply.specs.MovedFits.{fits-holds}
 use Rattle.keys.proofs.Found.{lent-slice, slice-rest}
@@ -28,11 +30,14 @@ use Rattle.find.proofs.Logged.{it, logged-is}
 use Rattle.apply_work.specs.Work.{Good, stateIn}
 use Rattle.restore_copy.specs.Rebuild.{Rebuilt}
 use Rattle.apply_step.specs.Step.{Holding, outcome, StillHolding}
-use Rattle.records.proofs.Replies.{refused-bad}
-use Rattle.restore.specs.Restore.{NextIs, replayed, wholeContents, Whole, RanAs}
+use Rattle.records.specs.Answers.{gotReply}
+use Rattle.restore.proofs.Framed.{logged-no-offset, framed-got, begun-offset, run-got}
+use Rattle.restore.specs.Restore.{replayed, BegunAs, freshAt, EndsBy, NextIs, Reached, wholeContents, Whole, RanAs}
 use Rattle.apply_work.specs.declared.State.{State}
 use Rattle.apply_work.specs.declared.Tried.{Tried}
 use Rattle.apply_work.specs.declared.Tried.the-variants.{Refused as TriedRefused, Moved as TriedMoved}
+use Rattle.restore.specs.declared.Begun.{Begun}
+use Rattle.restore.specs.declared.Begun.the-variants.{At, Refused as NotBegun}
 use Rattle.restore.specs.declared.Next.{Next}
 use Rattle.restore.specs.declared.Next.the-variants.{Moved, Unread, Refused}
 use Rattle.restore.specs.declared.Ran.{Ran}
@@ -41,11 +46,10 @@ use Rattle.restore.specs.declared.Ran.the-variants.{Done, Unread as RanU
 -- 1. The first record
 
 module _ (w : Bytes) (s : State) (capacity : ℕ) (input : Bytes) where
-  pub next-unread : {n : ℕ} → refused n ≡ readOf input → NextIs w s capacity input w (Unread n)
-  unfolding readOf
-  next-unread {n} e = (refused-bad (read logged input) n e, refl)
+  pub next-unread : {n : ℕ} → EndsBy n input → NextIs w s capacity input w (Unread n)
+  next-unread {n} e = (e, refl)
 
-  module _ (are : AreBytes input) {n : ℕ} (e : accepted (n ∷ []) ≡ readOf input) where
+  module _ (are : AreBytes input) {n : ℕ} (e : accepted (n ∷ []) ≡ gotReply (read logged input)) where
     -- a step over its bytes is a step over the record that is read
     applied-read : apply capacity (loggedIn (take n input)) (stateIn w s) ≡ apply capacity (it input are e .0) (stateIn w s)
     applied-read = ap (λ r. apply capacity r (stateIn w s)) (logged-is input are e)
@@ -63,55 +67,67 @@ module _ (w : Bytes) (s : State) (capacity : ℕ) (input : Bytes) where
         subst (StillHolding v capacity) q (step .1),
       )
 
--- 2. What is reached
+-- 2. The start
 
--- the records before a place are applied, whatever bytes follow them
-pub record Reached (capacity : ℕ) (input : Bytes) (at : ℕ) (w : Bytes) (s : State) : Type 0 where
-  pub within : at ≤ length input
-  pub holding : Holding w s capacity
-  pub replays : (t : Bytes) → replayed capacity (take at input ++ t) ≡ replay capacity (itemsFrom logged 0 at t) (stateIn w s)
+module _ (w : Bytes) (o : ℕ) where
+  fresh-state : stateIn w (freshAt o) ≡ dated o fresh
+  unfolding itemsFrom records
+  fresh-state = refl
 
--- the state of no records
-abbrev freshState : State
-freshState = record { bounds = record { mid = 0; used = 0 }; epoch = span 8 - 1; kraft = 0 }
+  fresh-good : Good w (freshAt o .bounds)
+  unfolding itemsFrom records isWhole
+  fresh-good = record { order = omega arith; fits = omega arith; reals = refl; groups = refl; keeps = tt }
 
-fresh-state : (w : Bytes) → stateIn w freshState ≡ fresh
-unfolding itemsFrom records
-fresh-state w = refl
-
-fresh-good : (w : Bytes) → Good w (freshState .bounds)
-unfolding itemsFrom records isWhole
-fresh-good w = record { order = omega arith; fits = omega arith; reals = refl; groups = refl; keeps = tt }
-
-pub reached-start : (capacity : ℕ) (input w : Bytes) → isCapacity capacity ≡ true → Reached capacity input 0 w freshState
-reached-start capacity input w h =
-    let f = fresh-fits capacity h in
-    record {
-      within = omega arith;
-      holding = record {
-        good = fresh-good w;
-        holds = rw (fresh-state w) (fits-holds capacity fresh f);
+  fresh-holding : (capacity : ℕ) → isCapacity capacity ≡ true → isOffset o ≡ true → Holding w (freshAt o) capacity
+  fresh-holding capacity h is =
+      let f = dated-fits capacity o fresh is (fresh-fits capacity h) in
+      record {
+        good = fresh-good;
+        holds = rw fresh-state (fits-holds capacity (dated o fresh) f);
         within = h;
-        light = rw (fresh-state w) (f .room);
+        light = rw fresh-state (f .room);
         fits = omega (arith, capacity-least capacity h);
-      };
-      replays = λ t. ap (replay capacity (itemsFrom logged 0 0 t)) (sym (fresh-state w));
-    }
+      }
+
+pub reached-start : (capacity : ℕ) (input w : Bytes) → isCapacity capacity ≡ true → {o n : ℕ} {b : Begun} → BegunAs input b → b ≡ At o n
+    → {s : State} → s ≡ freshAt o → Reached capacity input n w s
+reached-start capacity input w h {o} {n} {b} d q {s} e = rw e (record {
+  within = reads framed input r n (p .1) .fits;
+  holding = fresh-holding w o capacity h (rw (p .3) (begun-offset r (reads framed input r n (p .1) .passes) (p .2)));
+  replays = λ t.
+      let rest = take n input in
+      let seam : drop n (rest ++ t) ≡ t = drop-at rest t n (length-take-le n input (reads framed input r n (p .1) .fits)) in
+      run-got capacity (rest ++ t) r n (reads framed input r n (p .1) .later t) (p .2)
+      ∙ ap (λ (x : Bytes). replay capacity (itemsFrom framed 0 n x) (dated (number (value 1 (r .run))) fresh)) seam
+      ∙ ap (λ m. replay capacity (itemsFrom framed 0 n t) (dated m fresh)) (sym (p .3))
+      ∙ ap (replay capacity (itemsFrom framed 0 n t)) (sym (fresh-state w o));
+})
+  where
+    p : BegunAs input (At o n)
+    p = subst (BegunAs input) q d
+
+    r : Rec
+    r = p .0
+
+pub ran-unbegun : (capacity : ℕ) (input w : Bytes) → isCapacity capacity ≡ true → {n : ℕ} {b : Begun} → BegunAs input b → b ≡ NotBegun n
+    → {s : State} → s ≡ freshAt (span 8 - 1) → RanAs capacity input w (RanUnread n 0 s)
+ran-unbegun capacity input w h {n} d q e =
+    rw e (fresh-holding w (span 8 - 1) capacity h fresh-offset, subst (BegunAs input) q d capacity ∙ ap (stopped n 0) (sym (fresh-state w (span 8 - 1))))
+  where
+    fresh-offset : isOffset (span 8 - 1) ≡ true
+    fresh-offset = unfold isOffset in refl
 
 -- 3. A turn
 
 module _ (capacity place : ℕ) where
   replay-got : (s : Bytes) (r : Rec) (n : ℕ) (c : Contents) → read logged s ≡ got r n
-      → replay capacity (itemsFrom logged 0 place s) c
-      ≡ onApplied (apply capacity r c) (λ m. stopped m place c) (replay capacity (itemsFrom logged 0 (place + n) (drop n s)))
+      → replay capacity (itemsFrom framed 0 place s) c
+      ≡ onApplied (apply capacity r c) (λ m. stopped m place c) (replay capacity (itemsFrom framed 0 (place + n) (drop n s)))
   unfolding replay
-  replay-got s r n c e = ap (λ i. replay capacity i c) (items-got logged place s r n e)
-
-  replay-bad : (s : Bytes) (n : ℕ) (c : Contents) → 0 < length s → read logged s ≡ bad n
-      → replay capacity (itemsFrom logged 0 place s) c ≡ stopped n place c
-  unfolding replay
-  replay-bad [] n c h e = absurd (omega arith)
-  replay-bad (b ∷ s) n c h e = ap (λ i. replay capacity i c) (items-bad logged place b s n e)
+  replay-got s r n c e =
+      ap (λ i. replay capacity i c) (items-got framed place s r n (framed-got s r n e))
+      ∙ ap (λ b. cond b (stopped 22 place c) (onApplied (apply capacity r c) (λ m. stopped m place c) (replay capacity (itemsFrom framed 0 (place + n) (drop n s)))))
+      (logged-no-offset r (reads logged s r n e .passes))
 
 module _ (capacity : ℕ) (input : Bytes) (at : ℕ) (w : Bytes) (s : State) (h : Reached capacity input at w s) where
   -- the bytes from the place on, as they are lent
@@ -121,7 +137,7 @@ module _ (capacity : ℕ) (input : Bytes) (at : ℕ) (w : Bytes) (s : State) (h 
   lent-rest : lent ≡ drop at input
   lent-rest = lent-slice input at (length input) (h .within) ∙ slice-rest at input
 
-  reached-rest : replayed capacity input ≡ replay capacity (itemsFrom logged 0 at (drop at input)) (stateIn w s)
+  reached-rest : replayed capacity input ≡ replay capacity (itemsFrom framed 0 at (drop at input)) (stateIn w s)
   reached-rest = ap (replayed capacity) (sym (take-append-drop at input)) ∙ h .replays (drop at input)
 
   reached-whole : replayed capacity (take at input) ≡ record { reply = accepted []; contents = stateIn w s }
@@ -140,7 +156,7 @@ module _ (capacity : ℕ) (input : Bytes) (at : ℕ) (w : Bytes) (s : State) (h 
           (omega (arith, l .head), omega (arith, l .fits, length-drop at input, h .within))
 
       turn-replays : (z : Bytes)
-          → replayed capacity (take (at + n) input ++ z) ≡ replay capacity (itemsFrom logged 0 (at + n) z) (stateIn v t)
+          → replayed capacity (take (at + n) input ++ z) ≡ replay capacity (itemsFrom framed 0 (at + n) z) (stateIn v t)
       turn-replays z =
           let p = next-is (Moved t n) q in
           let l = reads logged (drop at input) (p .0) n (p .1) in
@@ -150,8 +166,8 @@ module _ (capacity : ℕ) (input : Bytes) (at : ℕ) (w : Bytes) (s : State) (h 
           ∙ ap (replayed capacity) (append-assoc (take at input) rest z)
           ∙ h .replays (rest ++ z)
           ∙ replay-got capacity at (rest ++ z) (p .0) n (stateIn w s) (l .later z)
-          ∙ ap (λ a. onApplied a (λ m. stopped m at (stateIn w s)) (replay capacity (itemsFrom logged 0 (at + n) (drop n (rest ++ z))))) (p .2)
-          ∙ ap (λ (x : Bytes). replay capacity (itemsFrom logged 0 (at + n) x) (stateIn v t)) seam
+          ∙ ap (λ a. onApplied a (λ m. stopped m at (stateIn w s)) (replay capacity (itemsFrom framed 0 (at + n) (drop n (rest ++ z))))) (p .2)
+          ∙ ap (λ (x : Bytes). replay capacity (itemsFrom framed 0 (at + n) x) (stateIn v t)) seam
 
       pub turned : Reached capacity input (at + n) v t
       turned = record { within = turn-places .1; holding = next-is (Moved t n) q .3; replays = turn-replays }
@@ -163,7 +179,7 @@ module _ (capacity : ℕ) (input : Bytes) (at : ℕ) (w : Bytes) (s : State) (h 
         let p = next-is (Unread n) q in (
           subst (λ x. Holding x s capacity) (sym (p .1)) (h .holding),
           reached-rest
-              ∙ replay-bad capacity at (drop at input) n (stateIn w s) (omega (arith, length-drop at input)) (p .0)
+              ∙ p .0 capacity at (stateIn w s) (omega (arith, length-drop at input))
               ∙ ap (λ x. stopped n at (stateIn x s)) (sym (p .1)),
         )
 
@@ -174,7 +190,7 @@ module _ (capacity : ℕ) (input : Bytes) (at : ℕ) (w : Bytes) (s : State) (h 
           ap (λ x. x .reply) reached-whole,
           reached-rest
               ∙ replay-got capacity at (drop at input) (p .0) (p .1) (stateIn w s) (p .2)
-              ∙ ap (λ a. onApplied a (λ m. stopped m at (stateIn w s)) (replay capacity (itemsFrom logged 0 (at + p .1) (drop (p .1) (drop at input))))) (p .3)
+              ∙ ap (λ a. onApplied a (λ m. stopped m at (stateIn w s)) (replay capacity (itemsFrom framed 0 (at + p .1) (drop (p .1) (drop at input))))) (p .3)
               ∙ ap (λ x. stopped n at (x .contents)) (sym reached-whole),
         )
 

@@ -1,13 +1,17 @@
-// Restore: the image of some records, from nothing.
+// Restore: the image of some records, from nothing. The first one is the log offset.
 use apply_step::step;
 use apply_work::Bounds;
 use apply_work::State;
 use apply_work::Tried;
 use apply_work::lay;
 use header::NO_EPOCH;
+use header::NO_OFFSET;
 use header::is_capacity;
+use keys::number_at;
 use model::answers::Answer;
 use model::answers::Restored;
+use model::kinds::LOG_OFFSET;
+use model::refusals::MISPLACED_OFFSET;
 use model::refusals::NO_IMAGE;
 use records::read;
 use restore_copy::rebuild;
@@ -20,7 +24,58 @@ ghost use Rattle.model.specs.Snapshot.{restoreOf};
 ghost use Rattle.apply_drafts.specs.Drafts.{draftRoom};
 ghost use Rattle.apply_step.specs.Step.{workRoom, Holding};
 ghost use Rattle.model.specs.Answers.{restoreReply};
-ghost use Rattle.restore.specs.Restore.{NextIs, RanAs, Whole, wholeContents};
+ghost use Rattle.restore.specs.Restore.{freshAt, BegunAs, InsideAs, NextIs, Reached, RanAs, Whole, wholeContents};
+
+// The log offset that some records start with, and how many bytes its record has; or a refusal of the first record.
+enum Begun {
+    At(u64, usize),
+    Refused(u8),
+}
+
+// Reads the log offset at the start of some records: 22 where there is none.
+fn begin(input: &[u8]) -> Begun
+    ensures { λ r. ⌜ BegunAs (now (input .entry)) r ⌝ }
+{
+    if input.len() == 0 {
+        return Begun::Refused(MISPLACED_OFFSET);
+    }
+    match read(input) {
+        Answer::Refused(number) => Begun::Refused(number),
+        Answer::Used(n) => {
+            if input[0] != LOG_OFFSET {
+                return Begun::Refused(MISPLACED_OFFSET);
+            }
+            Begun::At(number_at(&input[..n], 1, 8), n)
+        }
+    }
+}
+
+// Reads a record behind the first one: 22 where it is a log offset.
+fn read_inside(input: &[u8]) -> Answer
+    ensures { λ r. ⌜ InsideAs (now (input .entry)) r ⌝ }
+{
+    match read(input) {
+        Answer::Refused(number) => Answer::Refused(number),
+        Answer::Used(n) => {
+            if input[0] == LOG_OFFSET {
+                return Answer::Refused(MISPLACED_OFFSET);
+            }
+            Answer::Used(n)
+        }
+    }
+}
+
+// The state of no records, at a log offset.
+fn no_records(offset: u64) -> State
+    ensures { λ r. ⌜ r ≡ freshAt offset ⌝ }
+{
+    State {
+        bounds: Bounds { mid: 0, used: 0 },
+        epoch: NO_EPOCH,
+        kraft: 0,
+        offset,
+    }
+}
 
 // What the first of some records comes to: the state after it and how many bytes it has; Read's refusal, which leaves the work array as it was; or
 // Apply's.
@@ -30,7 +85,7 @@ enum Next {
     Refused(u8),
 }
 
-// Applies the first record of an input.
+// Applies the first record of an input, which stands behind the log offset.
 fn next_record(
     w: &mut [u8],
     a: &mut [u8],
@@ -42,7 +97,7 @@ fn next_record(
     requires { ⌜ Holding (now w) state capacity × (length (now w) ≡ workRoom) × (draftRoom ≤ length (now a)) × (draftRoom ≤ length (now b)) ⌝ }
     ensures { λ r. ⌜ NextIs (now (w .entry)) state capacity (now (input .entry)) (now (w .exit)) r ⌝ }
 {
-    match read(input) {
+    match read_inside(input) {
         Answer::Refused(number) => Next::Unread(number),
         Answer::Used(n) => match step(w, a, b, state, capacity, &input[..n]) {
             Tried::Refused(number) => Next::Refused(number),
@@ -59,17 +114,21 @@ enum Ran {
     Refused(u8, usize),
 }
 
-// Applies records to a fresh state, up to the end or to the first refusal.
-fn run(w: &mut [u8], a: &mut [u8], b: &mut [u8], capacity: usize, input: &[u8]) -> Ran
-    requires { ⌜ (isCapacity capacity ≡ true) × (length (now w) ≡ workRoom) × (draftRoom ≤ length (now a)) × (draftRoom ≤ length (now b)) ⌝ }
+// Applies the records from a place on to what those before it make, up to the end or to the first refusal.
+fn run_from(
+    w: &mut [u8],
+    a: &mut [u8],
+    b: &mut [u8],
+    capacity: usize,
+    begun: State,
+    start: usize,
+    input: &[u8],
+) -> Ran
+    requires { ⌜ Reached capacity (now input) start (now w) begun × (length (now w) ≡ workRoom) × (draftRoom ≤ length (now a)) × (draftRoom ≤ length (now b)) ⌝ }
     ensures { λ r. ⌜ RanAs capacity (now (input .entry)) (now (w .exit)) r ⌝ }
 {
-    let mut state = State {
-        bounds: Bounds { mid: 0, used: 0 },
-        epoch: NO_EPOCH,
-        kraft: 0,
-    };
-    let mut at = 0;
+    let mut state = begun;
+    let mut at = start;
     while at < input.len() {
         match next_record(w, a, b, state, capacity, &input[at..]) {
             Next::Moved(s, n) => {
@@ -87,6 +146,17 @@ fn run(w: &mut [u8], a: &mut [u8], b: &mut [u8], capacity: usize, input: &[u8]) 
     Ran::Done(state)
 }
 
+// Applies records to a fresh state at the log offset that they start with, up to the end or to the first refusal.
+fn run(w: &mut [u8], a: &mut [u8], b: &mut [u8], capacity: usize, input: &[u8]) -> Ran
+    requires { ⌜ (isCapacity capacity ≡ true) × (length (now w) ≡ workRoom) × (draftRoom ≤ length (now a)) × (draftRoom ≤ length (now b)) ⌝ }
+    ensures { λ r. ⌜ RanAs capacity (now (input .entry)) (now (w .exit)) r ⌝ }
+{
+    match begin(input) {
+        Begun::Refused(number) => Ran::Unread(number, 0, no_records(NO_OFFSET)),
+        Begun::At(offset, n) => run_from(w, a, b, capacity, no_records(offset), n, input),
+    }
+}
+
 // Lays out the image of records that are all applied: a run over them has no other end.
 fn lay_whole(image: &mut [u8], w: &mut [u8], a: &mut [u8], b: &mut [u8], input: &[u8])
     requires { ⌜ Whole (length (now image)) (now input) × (isCapacity (length (now image)) ≡ true) × (length (now w) ≡ workRoom) × (draftRoom ≤ length (now a)) × (draftRoom ≤ length (now b)) ⌝ }
@@ -94,7 +164,7 @@ fn lay_whole(image: &mut [u8], w: &mut [u8], a: &mut [u8], b: &mut [u8], input: 
 {
     match run(w, a, b, image.len(), input) {
         Ran::Done(s) => {
-            lay(image, w, s.bounds, s.epoch, s.kraft);
+            lay(image, w, s.bounds, s.epoch, s.kraft, s.offset);
         }
         Ran::Unread(number, at, s) => {}
         Ran::Refused(number, at) => {}
@@ -111,11 +181,11 @@ fn restore_each(image: &mut [u8], w: &mut [u8], input: &[u8]) -> Restored
     let mut b = [0; 40960];
     match run(w, &mut a, &mut b, image.len(), input) {
         Ran::Done(s) => {
-            lay(image, w, s.bounds, s.epoch, s.kraft);
+            lay(image, w, s.bounds, s.epoch, s.kraft, s.offset);
             Restored::Done
         }
         Ran::Unread(number, at, s) => {
-            lay(image, w, s.bounds, s.epoch, s.kraft);
+            lay(image, w, s.bounds, s.epoch, s.kraft, s.offset);
             Restored::Stopped(number, at)
         }
         Ran::Refused(number, at) => {

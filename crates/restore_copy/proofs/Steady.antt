@@ -74,7 +74,7 @@ module _ (c : Contents) (o : Orderly c) (all : every (settledEntry (c .real)) (c
   still none epoch = λ i. record {
     real = entries-still i;
     empties = sym none i;
-    fixed = record { epoch = epoch i; kraft = c .fixed .kraft };
+    fixed = record { epoch = epoch i; kraft = c .fixed .kraft; offset = c .fixed .offset };
   }
 
 pub epoch-raised : (n e : ℕ) → isNegative 8 e ≡ false → restoredEpoch n e ≡ e

@@ -1,6 +1,7 @@
 // The image that some records would be a snapshot of, by copying. Nothing is promised of it but that it stays in its buffer: it is tested afterwards.
 use header::HEAD_SIZE;
 use header::NO_EPOCH;
+use header::NO_OFFSET;
 use header::put_header;
 use model::kinds;
 ghost use Prim.Native.Nat.{_+_, _≤_, _<_};
@@ -12,6 +13,7 @@ struct Copied {
     end: usize,
     epoch: u64,
     kraft: u64,
+    offset: u64,
 }
 
 // How many bytes the record at a place has, at most all that are left.
@@ -68,7 +70,8 @@ fn number_in(rec: &[u8]) -> u64 {
     wire::get(rec, 6, width)
 }
 
-// Copies one record: a topic (1) with its flag, the kraft version (10) and the epoch (13) as numbers, all others as they are.
+// Copies one record: a topic (1) with its flag, the kraft version (10), the epoch (13) and the log offset (26) as
+// numbers, all others as they are.
 fn copy_record(image: &mut [u8], copied: Copied, rec: &[u8]) -> Copied
     requires { ⌜ copied .end ≤ length (now image) ⌝ }
     ensures { λ r. ⌜ r .end ≤ length (now (image .entry)) ⌝ }
@@ -76,6 +79,7 @@ fn copy_record(image: &mut [u8], copied: Copied, rec: &[u8]) -> Copied
     let end = copied.end;
     let epoch = copied.epoch;
     let kraft = copied.kraft;
+    let offset = copied.offset;
     if rec.len() == 0 {
         return copied;
     }
@@ -84,21 +88,31 @@ fn copy_record(image: &mut [u8], copied: Copied, rec: &[u8]) -> Copied
             end: put_topic(image, end, rec),
             epoch,
             kraft,
+            offset,
         },
         kinds::KRAFT_VERSION => Copied {
             end,
             epoch,
             kraft: number_in(rec),
+            offset,
         },
         kinds::FEATURES_EPOCH => Copied {
             end,
             epoch: number_in(rec),
             kraft,
+            offset,
         },
-        0 | 2..=9 | 11 | 12 | 14..=255 => Copied {
+        kinds::LOG_OFFSET => Copied {
+            end,
+            epoch,
+            kraft,
+            offset: number_in(rec),
+        },
+        0 | 2..=9 | 11 | 12 | 14..=25 | 27..=255 => Copied {
             end: put(image, end, rec),
             epoch,
             kraft,
+            offset,
         },
     }
 }
@@ -112,6 +126,7 @@ fn copy_records(image: &mut [u8], input: &[u8]) -> Copied
         end: HEAD_SIZE,
         epoch: NO_EPOCH,
         kraft: 0,
+        offset: NO_OFFSET,
     };
     let mut at = 0;
     while at < input.len() {
@@ -129,5 +144,5 @@ pub fn copy_image(image: &mut [u8], input: &[u8])
     let copied = copy_records(image, input);
     let end = copied.end;
     wire::clear(&mut image[end..]);
-    put_header(image, end, copied.epoch, copied.kraft);
+    put_header(image, end, copied.epoch, copied.kraft, copied.offset);
 }

@@ -6,13 +6,14 @@ use mathlib.Core.Option.{Option, none}
 use Prim.Native.Nat.{ℕ, zero, suc, _-_, _/_, _%_, _≤_, _<_}
 use lib.Dec.{leb, eqb}
 use native.Mathlib.Omega.{arith}
-use borrow.Author.Tests.{not-true, not-false, lt-ltb, le-ltb, le-leb, lt-leb}
+use borrow.Author.Tests.{not-true, not-false, eq-eqb, ne-eqb, lt-ltb, le-ltb, le-leb, lt-leb}
 use lib.ListN.{length, getD, take, drop}
+use lib.Seq.{slice, take-all}
 use Rattle.model.specs.Choice.{orThen, unless}
-use Rattle.model.specs.Number.{Bytes}
+use Rattle.model.specs.Number.{Bytes, number, isOffset}
 use Rattle.model.specs.Text.{isText}
 use Rattle.model.specs.Order.{compareBytes, isBelow, ordering}
-use Rattle.model.specs.Shape.{below, mapKey, nodeSet, textFault, ascends, isBelowByte, leafFault}
+use Rattle.model.specs.Shape.{below, offset, mapKey, nodeSet, textFault, ascends, isBelowByte, leafFault}
 use Rattle.model.specs.Nodes.{nodesOf, noRepeats}
 use Rattle.model.specs.declared.Order.{Order}
 use Rattle.laws.specs.Choice.{orThen-left, orThen-right}
@@ -75,7 +76,25 @@ module _ (bound : ℕ) where
   below-wrong (b ∷ []) x h e k = rw (← e, le-ltb _ _ k)
   below-wrong (b ∷ c ∷ v) x h e k = absurd (omega arith)
 
--- 4. Lists of nodes without a repeat
+-- 4. Log offsets
+
+module _ (v : Bytes) where
+  pub offset-length : (length v ≡ 8 → ⊥) → 4 ≡ leafFault none offset v
+  unfolding leafFault
+  offset-length h = rw (ne-eqb (length v) 8 h)
+
+  module _ (h : length v ≡ 8) {n : ℕ} (en : n ≡ number (slice 0 8 v)) {b : Bool} (eb : b ≡ isOffset n) where
+    offset-left : unless b 4 ≡ leafFault none offset v
+    unfolding leafFault
+    offset-left = let e : slice 0 8 v ≡ v = take-all 8 v (omega arith) in rw (eb, en, e, eq-eqb (length v) 8 h)
+
+    pub offset-right : b ≡ true → 0 ≡ leafFault none offset v
+    offset-right t = ap (λ x. unless x 4) (sym t) ∙ offset-left
+
+    pub offset-wrong : b ≡ false → 4 ≡ leafFault none offset v
+    offset-wrong t = ap (λ x. unless x 4) (sym t) ∙ offset-left
+
+-- 5. Lists of nodes without a repeat
 
 module _ (v : Bytes) (limit : ℕ) {f : ℕ} (ef : f ≡ listFault (length v) 8 limit) where
   abbrev ragged : ℕ

@@ -1,4 +1,4 @@
--- What is wrong with a value, by the form's code: up to 7 no run, from there on one.
+-- What is wrong with a value, by the form's code: up to 8 no run, from there on one.
 use mathlib.Core.Path.{_≡_, refl, ap, _∙_}
 use mathlib.Core.Bool.{Bool, true, false, cond}
 use mathlib.Core.Option.{Option}
@@ -12,7 +12,7 @@ use Rattle.shapes.specs.Table.{formIn, sizeIn, baseOf, shapeAt, formOf, rowsFro
 use Rattle.shapes.proofs.Rows.{rows-from}
 use Rattle.shape_faults.specs.Walk.{IsBase, IsRow, checkAt}
 
-leaf-value : (key : Option Bytes) (form size : ℕ) (v : Bytes) → form < 8 → valueFault key (formOf form size) v ≡ leafFault key (formOf form size) v
+leaf-value : (key : Option Bytes) (form size : ℕ) (v : Bytes) → form < 9 → valueFault key (formOf form size) v ≡ leafFault key (formOf form size) v
 unfolding valueFault formOf
 leaf-value key zero size v h = refl
 leaf-value key (suc zero) size v h = refl
@@ -22,9 +22,10 @@ leaf-value key (suc (suc (suc (suc zero)))) size v h = refl
 leaf-value key (suc (suc (suc (suc (suc zero))))) size v h = refl
 leaf-value key (suc (suc (suc (suc (suc (suc zero)))))) size v h = refl
 leaf-value key (suc (suc (suc (suc (suc (suc (suc zero))))))) size v h = refl
-leaf-value key (suc (suc (suc (suc (suc (suc (suc (suc form)))))))) size v h = absurd (omega arith)
+leaf-value key (suc (suc (suc (suc (suc (suc (suc (suc zero)))))))) size v h = refl
+leaf-value key (suc (suc (suc (suc (suc (suc (suc (suc (suc form))))))))) size v h = absurd (omega arith)
 
-run-form : (form size : ℕ) → 8 ≤ form → formOf form size ≡ nested (shapeAt size)
+run-form : (form size : ℕ) → 9 ≤ form → formOf form size ≡ nested (shapeAt size)
 unfolding formOf
 run-form form size h =
     rw (
@@ -36,10 +37,11 @@ run-form form size h =
       ne-eqb form 5 (omega arith),
       ne-eqb form 6 (omega arith),
       ne-eqb form 7 (omega arith),
+      ne-eqb form 8 (omega arith),
     )
 
 -- the shape of a row's run
-module _ (row : ℕ) {form size : ℕ} (is : IsRow row) (ef : form ≡ formIn row) (es : size ≡ sizeIn row) (h : 8 ≤ form) where
+module _ (row : ℕ) {form size : ℕ} (is : IsRow row) (ef : form ≡ formIn row) (es : size ≡ sizeIn row) (h : 9 ≤ form) where
   run-size : size ≡ baseOf (shapeAt size)
   run-size = rw es (is (rw (← ef) h))
 
@@ -50,11 +52,11 @@ module _ (row : ℕ) (v : Bytes) (prior before : Option Bytes) {inner : Bool} {f
   pub value-inner : inner ≡ true → r ≡ leafFault prior (formOf form size) v → r ≡ checkAt inner prior before (formOf (formIn row) (sizeIn row)) v
   value-inner h e = rw (h, ← ef, ← es) e
 
-  pub value-leaf : inner ≡ false → form < 8 → r ≡ leafFault before (formOf form size) v
+  pub value-leaf : inner ≡ false → form < 9 → r ≡ leafFault before (formOf form size) v
       → r ≡ checkAt inner prior before (formOf (formIn row) (sizeIn row)) v
   value-leaf h k e = rw (h, ← ef, ← es, leaf-value before form size v k) e
 
-  pub value-run : IsRow row → inner ≡ false → 8 ≤ form → r ≡ runFault (checkAt true before) (rowsFrom size) start (runOf v)
+  pub value-run : IsRow row → inner ≡ false → 9 ≤ form → r ≡ runFault (checkAt true before) (rowsFrom size) start (runOf v)
       → r ≡ checkAt inner prior before (formOf (formIn row) (sizeIn row)) v
   unfolding valueFault
   value-run is h k e =

@@ -22,7 +22,7 @@ pub record IsBase (base : ℕ) : Type 0 where
 
 -- a row whose size, where it is a run, is the base of the run's shape
 abbrev pub IsRow : ℕ → Type 0
-IsRow row = 8 ≤ formIn row → sizeIn row ≡ baseOf (shapeAt (sizeIn row))
+IsRow row = 9 ≤ formIn row → sizeIn row ≡ baseOf (shapeAt (sizeIn row))
 
 -- 1. What came before
 

@@ -18,7 +18,7 @@ ghost use mathlib.Core.Option.{none};
 ghost use Prim.Native.Nat.{_+_, _<_, _≤_, _^_};
 ghost use lib.ListN.{length};
 ghost use lib.Seq.{slice};
-ghost use Rattle.model.specs.Shape.{start as nothing, textFault, leafFault, countFault, runFault, below, mapKey, nodeSet, ascends as isAbove};
+ghost use Rattle.model.specs.Shape.{start as nothing, textFault, leafFault, countFault, runFault, below, offset, mapKey, nodeSet, ascends as isAbove};
 ghost use Rattle.model.specs.Record.{gathered};
 ghost use Rattle.shapes.specs.Table.{table, rowCount, formIn, sizeIn, formOf, presenceOf, rowsFrom};
 ghost use Rattle.fields.specs.Fields.{fieldsFrom, Inside};
@@ -30,7 +30,7 @@ const NO_TEXT: u8 = WRONG;
 const OUT_OF_ORDER: u8 = WRONG;
 
 // The form of a run of a shape's fields.
-const NESTED: u32 = 8;
+const NESTED: u32 = 9;
 
 // Where the key of the element before stands. There is none where the start is above the end.
 pub struct Prior {
@@ -138,6 +138,19 @@ fn below_fault(v: &[u8], bound: usize) -> u8
     WRONG
 }
 
+// What is wrong with a log offset.
+fn offset_fault(v: &[u8]) -> u8
+    ensures { λ r. ⌜ r ≡ leafFault none offset (now (v .entry)) ⌝ }
+{
+    if v.len() != 8 {
+        return WRONG;
+    }
+    if wire::is_offset(wire::get(v, 0, 8)) {
+        return 0;
+    }
+    WRONG
+}
+
 // What is wrong with a value that is no run, from one place to another.
 fn leaf_fault(s: &[u8], prior: Prior, form: u32, size: usize, from: usize, to: usize) -> u8
     requires { ⌜ PriorIn (now s) prior × (from ≤ to) × (to ≤ length (now s)) ⌝ }
@@ -153,6 +166,7 @@ fn leaf_fault(s: &[u8], prior: Prior, form: u32, size: usize, from: usize, to: u
         5 => list_fault(len, 8, size),
         6 => list_fault(len, 16, size),
         7 => set_fault(&s[from..to], size),
+        8 => offset_fault(&s[from..to]),
         _ => WRONG,
     }
 }

@@ -12,8 +12,8 @@ use lib.ListN.{length, getD, take, drop, getElem?, length-map}
 use lib.Seq.{slice, length-slice, getD-drop, getD-take}
 use Rattle.model.specs.Choice.{every}
 use Rattle.model.specs.Shape.{Shape, recordOf, storedTopic, endpoint, approval, entity, pair, feature, Row, rowsOf, rowAt, isRequired, anyRequired}
-use Rattle.model.specs.declared.Kind.the-variants.{Topic, Partition, BrokerRegistration, DeleteTopic, TopicConfig, BrokerConfig, ClientQuota, ProducerIds, UnregisterBroker, KRaftVersion, FeatureLevel, ClientMetricsConfig, FeaturesEpoch}
-use Rattle.model.specs.declared.Kind.the-variants.{PartitionDirAssignment, PartitionOffsetAdvance, GroupConfig, ControllerRegistration, TopicFreeze, BreakGlassProposal, DeleteBreakGlassProposal, PartitionElr, PartitionRecovery, PartitionUpdate, BrokerRegistrationChange, UnregisterController}
+use Rattle.model.specs.declared.Kind.the-variants.{Topic, Partition, BrokerRegistration, DeleteTopic, TopicConfig, BrokerConfig, ClientQuota, ProducerIds, UnregisterBroker, KRaftVersion, FeatureLevel, ClientMetricsConfig, FeaturesEpoch, PartitionDirAssignment}
+use Rattle.model.specs.declared.Kind.the-variants.{PartitionOffsetAdvance, GroupConfig, ControllerRegistration, TopicFreeze, BreakGlassProposal, DeleteBreakGlassProposal, PartitionElr, PartitionRecovery, PartitionUpdate, BrokerRegistrationChange, UnregisterController, LogOffset}
 use Rattle.laws.specs.Choice.{and-left, and-right}
 use Rattle.laws.specs.Lists.{getElem?-past}
 use Rattle.shapes.specs.Table as Table
@@ -23,7 +23,7 @@ use Rattle.shapes.specs.Table.{rowCount, baseOf, lastRequired, table, fo
 
 -- the size of a run's row is its shape's base
 sizeRight : ℕ → Bool
-sizeRight row = ltb (formIn row) 8 || eqb (sizeIn row) (baseOf (shapeAt (sizeIn row)))
+sizeRight row = ltb (formIn row) 9 || eqb (sizeIn row) (baseOf (shapeAt (sizeIn row)))
 
 sizes-right : every sizeRight table ≡ true
 unfolding sizeRight rowsOf baseOf Table.table Table.shapes Table.packShape Table.packRows lastRequired Table.formCode Table.formSize Table.howOften shapeAt
@@ -38,12 +38,12 @@ table-length : length table ≡ rowCount
 unfolding rowsOf Table.table Table.shapes Table.packShape Table.packRows
 table-length = refl
 
-pub run-base : (i : ℕ) → i < rowCount → 8 ≤ formIn (numberAt i) → sizeIn (numberAt i) ≡ baseOf (shapeAt (sizeIn (numberAt i)))
+pub run-base : (i : ℕ) → i < rowCount → 9 ≤ formIn (numberAt i) → sizeIn (numberAt i) ≡ baseOf (shapeAt (sizeIn (numberAt i)))
 unfolding sizeRight
 run-base i k h =
     let row = numberAt i in
     let t = every-at sizeRight table i sizes-right (omega (arith, table-length)) in
-    eqb-true (sizeIn row) (baseOf (shapeAt (sizeIn row))) (rw (le-ltb (formIn row) 8 h) at t)
+    eqb-true (sizeIn row) (baseOf (shapeAt (sizeIn row))) (rw (le-ltb (formIn row) 9 h) at t)
 
 -- 2. Required tags
 
@@ -136,6 +136,7 @@ base-right (recordOf PartitionRecovery) = refl
 base-right (recordOf PartitionUpdate) = refl
 base-right (recordOf BrokerRegistrationChange) = refl
 base-right (recordOf UnregisterController) = refl
+base-right (recordOf LogOffset) = refl
 base-right storedTopic = refl
 base-right endpoint = refl
 base-right approval = refl

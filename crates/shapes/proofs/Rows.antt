@@ -1,8 +1,8 @@
 -- The table gives each shape the rows that `model` has, by computation.
 use mathlib.Core.Path.{_≡_, refl}
 use Rattle.model.specs.Shape.{Shape, recordOf, storedTopic, endpoint, approval, entity, pair, feature, rowsOf}
-use Rattle.model.specs.declared.Kind.the-variants.{Topic, Partition, BrokerRegistration, DeleteTopic, TopicConfig, BrokerConfig, ClientQuota, ProducerIds, UnregisterBroker, KRaftVersion, FeatureLevel, ClientMetricsConfig, FeaturesEpoch}
-use Rattle.model.specs.declared.Kind.the-variants.{PartitionDirAssignment, PartitionOffsetAdvance, GroupConfig, ControllerRegistration, TopicFreeze, BreakGlassProposal, DeleteBreakGlassProposal, PartitionElr, PartitionRecovery, PartitionUpdate, BrokerRegistrationChange, UnregisterController}
+use Rattle.model.specs.declared.Kind.the-variants.{Topic, Partition, BrokerRegistration, DeleteTopic, TopicConfig, BrokerConfig, ClientQuota, ProducerIds, UnregisterBroker, KRaftVersion, FeatureLevel, ClientMetricsConfig, FeaturesEpoch, PartitionDirAssignment}
+use Rattle.model.specs.declared.Kind.the-variants.{PartitionOffsetAdvance, GroupConfig, ControllerRegistration, TopicFreeze, BreakGlassProposal, DeleteBreakGlassProposal, PartitionElr, PartitionRecovery, PartitionUpdate, BrokerRegistrationChange, UnregisterController, LogOffset}
 use Rattle.shapes.specs.Table as Table
 use Rattle.shapes.specs.Table.{baseOf, rowsFrom}
 
@@ -33,6 +33,7 @@ rows-from (recordOf PartitionRecovery) = refl
 rows-from (recordOf PartitionUpdate) = refl
 rows-from (recordOf BrokerRegistrationChange) = refl
 rows-from (recordOf UnregisterController) = refl
+rows-from (recordOf LogOffset) = refl
 rows-from storedTopic = refl
 rows-from endpoint = refl
 rows-from approval = refl

@@ -1,6 +1,6 @@
 -- The code's table: each row of `model` as one number, and before each shape's rows one for the shape. `rowsFrom` reads rows back, and
 -- gives each shape the rows that `model` has (proofs/Table).
-use Prim.Native.Nat.{ℕ, suc, _+_, _*_, _/_, _%_, _^_}
+use Prim.Native.Nat.{ℕ, zero, suc, _+_, _*_, _/_, _%_, _^_}
 use mathlib.Core.Bool.{cond}
 use mathlib.Core.List.{List, [], _∷_, map}
 use lib.Dec.{eqb}
@@ -8,9 +8,9 @@ use lib.ListN.{length, getD}
 use lib.Seq.{slice}
 use Rattle.model.specs.Choice.{given, joined}
 use Rattle.model.specs.Kind.{kindOf}
-use Rattle.model.specs.Shape.{Shape, recordOf, storedTopic, endpoint, approval, entity, pair, feature, Form, fixed, below, text, mapKey, raw, list, nodeSet, nested, Presence, required, optional, upTo, Row, rowsOf, isRequired, Source, shapeOf}
-use Rattle.model.specs.declared.Kind.the-variants.{Topic, Partition, BrokerRegistration, DeleteTopic, TopicConfig, BrokerConfig, ClientQuota, ProducerIds, UnregisterBroker, KRaftVersion, FeatureLevel, ClientMetricsConfig, FeaturesEpoch}
-use Rattle.model.specs.declared.Kind.the-variants.{PartitionDirAssignment, PartitionOffsetAdvance, GroupConfig, ControllerRegistration, TopicFreeze, BreakGlassProposal, DeleteBreakGlassProposal, PartitionElr, PartitionRecovery, PartitionUpdate, BrokerRegistrationChange, UnregisterController}
+use Rattle.model.specs.Shape.{Shape, recordOf, storedTopic, endpoint, approval, entity, pair, feature, Form, fixed, below, offset, text, mapKey, raw, list, nodeSet, nested, Presence, required, optional, upTo, Row, rowsOf, isRequired, Source, shapeOf, unknown}
+use Rattle.model.specs.declared.Kind.the-variants.{Topic, Partition, BrokerRegistration, DeleteTopic, TopicConfig, BrokerConfig, ClientQuota, ProducerIds, UnregisterBroker, KRaftVersion, FeatureLevel, ClientMetricsConfig, FeaturesEpoch, PartitionDirAssignment}
+use Rattle.model.specs.declared.Kind.the-variants.{PartitionOffsetAdvance, GroupConfig, ControllerRegistration, TopicFreeze, BreakGlassProposal, DeleteBreakGlassProposal, PartitionElr, PartitionRecovery, PartitionUpdate, BrokerRegistrationChange, UnregisterController, LogOffset}
 
 -- where a shape's rows begin
 unfoldable pub baseOf : Shape → ℕ
@@ -45,9 +45,10 @@ baseOf approval = 134
 baseOf entity = 139
 baseOf pair = 142
 baseOf feature = 145
+baseOf (recordOf LogOffset) = 149
 
 abbrev pub rowCount : ℕ
-rowCount = 149
+rowCount = 151
 
 -- 1. From rows to numbers
 
@@ -59,7 +60,8 @@ formCode (mapKey limit) = 3
 formCode (raw limit) = 4
 formCode (list width limit) = cond (eqb width 8) 5 6
 formCode (nodeSet limit) = 7
-formCode (nested s) = 8
+formCode offset = 8
+formCode (nested s) = 9
 
 unfoldable pub formSize : Form → ℕ
 formSize (fixed width) = width
@@ -69,6 +71,7 @@ formSize (mapKey limit) = limit
 formSize (raw limit) = limit
 formSize (list width limit) = limit
 formSize (nodeSet limit) = limit
+formSize offset = 8
 formSize (nested s) = baseOf s
 
 unfoldable pub howOften : Presence → ℕ
@@ -101,7 +104,7 @@ shapes =
     PartitionOffsetAdvance ∷ recordOf GroupConfig ∷ recordOf ControllerRegistration ∷ recordOf TopicFreeze ∷ recordOf
     BreakGlassProposal ∷ recordOf DeleteBreakGlassProposal ∷ recordOf PartitionElr ∷ recordOf PartitionRecovery ∷ recordOf
     PartitionUpdate ∷ recordOf BrokerRegistrationChange ∷ recordOf UnregisterController ∷ storedTopic ∷ endpoint ∷ approval ∷ entity ∷
-    pair ∷ feature ∷ []
+    pair ∷ feature ∷ recordOf LogOffset ∷ []
 
 unfoldable pub table : List ℕ
 table = joined (λ s. packShape (rowsOf s)) shapes
@@ -132,7 +135,8 @@ formOf code size =
     (cond (eqb code 1) (below size)
     (cond (eqb code 2) (text size)
     (cond (eqb code 3) (mapKey size)
-    (cond (eqb code 4) (raw size) (cond (eqb code 5) (list 8 size) (cond (eqb code 6) (list 16 size) (cond (eqb code 7) (nodeSet size) (nested (shapeAt size)))))))))
+    (cond (eqb code 4) (raw size)
+    (cond (eqb code 5) (list 8 size) (cond (eqb code 6) (list 16 size) (cond (eqb code 7) (nodeSet size) (cond (eqb code 8) offset (nested (shapeAt size))))))))))
 
 unfoldable pub presenceOf : ℕ → Presence
 presenceOf many = cond (eqb many 0) required (cond (eqb many 1) optional (upTo many))
@@ -150,7 +154,11 @@ fieldsAt base = sizeIn (numberAt base)
 unfoldable pub rowsFrom : ℕ → List Row
 rowsFrom base = map unpacked (slice (base + 1) (base + 1 + fieldsAt base) table)
 
--- 3. The base of a kind number
+-- 3. The base of a kind number, where its source knows the kind
+
+abbrev pub knownBase : ℕ → ℕ → ℕ
+knownBase zero base = base
+knownBase (suc n) base = rowCount
 
 unfoldable pub kindBase : Source → ℕ → ℕ
-kindBase source kind = given (kindOf kind) rowCount (λ k. baseOf (shapeOf source k))
+kindBase source kind = given (kindOf kind) rowCount (λ k. knownBase (unknown source k) (baseOf (shapeOf source k)))

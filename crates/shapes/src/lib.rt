@@ -3,20 +3,23 @@ use model::kinds;
 ghost use mathlib.Core.Path.{_≡_};
 ghost use Prim.Native.Nat.{_<_};
 ghost use lib.ListN.{getD};
-ghost use Rattle.model.specs.Shape.{logged, stored};
+ghost use Rattle.model.specs.Shape.{logged, stored, framed};
 ghost use Rattle.shapes.specs.Table.{table, rowCount, kindBase, formIn, sizeIn, priorIn, manyIn};
 
 // How many rows there are, and the base of a kind that there is none of.
-pub const ROW_COUNT: usize = 149;
+pub const ROW_COUNT: usize = 151;
 
 // The base of the topic as an image stores it.
 const STORED_TOPIC: usize = 123;
 
+// The base of the log offset that a snapshot starts with.
+const LOG_OFFSET: usize = 149;
+
 // Hexadecimal: form, size, the greatest required tag before, how often.
-// Form: 0 a fixed width, 1 a byte below the size, 2 a string, 3 a map's key, 4 bytes, 5 node ids, 6 ids, 7 node ids without a repeat, 8 a run of the shape
-// whose base the size is. How often: 0 once, 1 at most once, else up to so many times.
+// Form: 0 a fixed width, 1 a byte below the size, 2 a string, 3 a map's key, 4 bytes, 5 node ids, 6 ids, 7 node ids without a repeat, 8 a log offset, 9 a
+// run of the shape whose base the size is. How often: 0 once, 1 at most once, else up to so many times.
 // Before a shape's rows stands one with the number of its fields and its greatest required tag.
-const ROWS: [u32; 149] = [
+const ROWS: [u32; 151] = [
     // 1 Topic
     0x0_004_04_00, // 4 fields
     0x2_0ff_00_00, // name
@@ -43,19 +46,19 @@ const ROWS: [u32; 149] = [
     0x2_0ff_03_00, // host
     0x0_002_04_00, // port
     0x2_0ff_05_01, // rack
-    0x8_081_05_10, // endpoints
+    0x9_081_05_10, // endpoints
     0x6_040_05_00, // log_dirs
     0x1_002_08_00, // fenced
     0x1_002_09_00, // in_controlled_shutdown
     0x6_040_0a_01, // cordoned_log_dirs
-    0x8_091_0a_40, // features
+    0x9_091_0a_40, // features
     // 4 DeleteTopic
     0x0_001_01_00, // 1 fields
     0x2_0ff_00_00, // name
     // 5 TopicConfig
     0x0_002_01_00, // 2 fields
     0x2_0ff_00_00, // topic
-    0x8_08e_01_40, // overrides
+    0x9_08e_01_40, // overrides
     // 6 BrokerConfig
     0x0_003_02_00, // 3 fields
     0x0_008_00_00, // node_id
@@ -63,7 +66,7 @@ const ROWS: [u32; 149] = [
     0x2_0ff_02_01, // config_value
     // 7 ClientQuota
     0x0_003_02_00, // 3 fields
-    0x8_08b_00_08, // entity
+    0x9_08b_00_08, // entity
     0x2_0ff_00_00, // config_key
     0x0_008_02_01, // config_value
     // 8 ProducerIds
@@ -85,7 +88,7 @@ const ROWS: [u32; 149] = [
     // 12 ClientMetricsConfig
     0x0_002_01_00, // 2 fields
     0x2_0ff_00_00, // name
-    0x8_08e_01_40, // configs
+    0x9_08e_01_40, // configs
     // 13 FeaturesEpoch
     0x0_001_01_00, // 1 fields
     0x0_008_00_00, // epoch
@@ -103,14 +106,14 @@ const ROWS: [u32; 149] = [
     // 16 GroupConfig
     0x0_002_01_00, // 2 fields
     0x2_0ff_00_00, // group_id
-    0x8_08e_01_40, // configs
+    0x9_08e_01_40, // configs
     // 17 ControllerRegistration
     0x0_005_03_00, // 5 fields
     0x0_008_00_00, // node_id
     0x0_010_01_00, // incarnation_id
     0x1_002_02_00, // zk_migration_ready
-    0x8_081_03_10, // endpoints
-    0x8_091_03_40, // features
+    0x9_081_03_10, // endpoints
+    0x9_091_03_40, // features
     // 18 TopicFreeze
     0x0_009_09_00, // 9 fields
     0x2_0ff_00_00, // scope
@@ -131,7 +134,7 @@ const ROWS: [u32; 149] = [
     0x2_0ff_04_00, // reason
     0x0_008_05_00, // created_at_ms
     0x0_008_06_00, // expires_at_ms
-    0x8_086_07_10, // approvals
+    0x9_086_07_10, // approvals
     0x0_008_07_00, // consumed_at_ms
     0x1_002_09_00, // withdrawn
     // 20 DeleteBreakGlassProposal
@@ -150,7 +153,7 @@ const ROWS: [u32; 149] = [
     0x1_002_02_00, // state
     // 23 PartitionUpdate
     0x0_004_01_00, // 4 fields
-    0x8_005_00_00, // partition
+    0x9_005_00_00, // partition
     0x5_040_01_01, // eligible_leader_replicas
     0x5_040_01_01, // last_known_elr
     0x1_002_01_01, // recovery_state
@@ -197,9 +200,12 @@ const ROWS: [u32; 149] = [
     0x3_0ff_00_00, // name
     0x0_002_01_00, // low
     0x0_002_02_00, // high
+    // 26 LogOffset
+    0x0_001_01_00, // 1 fields
+    0x8_008_00_00, // offset
 ];
 
-// Where the rows of a kind's record begin: the kind number decides. Other numbers are no kinds.
+// Where the rows of a record in the log begin: the kind number decides. Other numbers are no kinds there, 26 among them.
 pub fn base_of(kind: u8) -> usize
     ensures { λ r. ⌜ r ≡ kindBase logged kind ⌝ }
 {
@@ -243,8 +249,18 @@ pub fn stored_base_of(kind: u8) -> usize
     base_of(kind)
 }
 
+// The same of a record by itself and in a snapshot, which may be the log offset.
+pub fn framed_base_of(kind: u8) -> usize
+    ensures { λ r. ⌜ r ≡ kindBase framed kind ⌝ }
+{
+    if kind == kinds::LOG_OFFSET {
+        return LOG_OFFSET;
+    }
+    base_of(kind)
+}
+
 // The table. Indexing the constant itself would set it up at each row.
-pub fn all_rows() -> [u32; 149]
+pub fn all_rows() -> [u32; 151]
     ensures { λ r. ⌜ r ≡ table ⌝ }
 {
     ROWS

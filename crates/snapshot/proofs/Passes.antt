@@ -24,7 +24,7 @@ use Rattle.find.proofs.Records.{record-returned}
 use Rattle.find.specs.Found.{AllKept}
 use Rattle.find.proofs.Finds.{entire}
 use Rattle.model.specs.Snapshot.{lengths}
-use Rattle.snapshot.specs.Returned.{returnedRecords, returnedIn, returnedAt, Behind}
+use Rattle.snapshot.specs.Returned.{returnedRecords, returnedIn, returnedAt, Behind, offsetSize}
 use Rattle.snapshot.proofs.Totals.{lengths-returned, size-low, here-bytes}
 use Rattle.records.proofs.Growing.{Growing, grow-start, part-fits, grow, grown}
 
@@ -96,20 +96,20 @@ module _ {s : Bytes} {at n : ℕ} (h : Counted s at n) where
 pub record Wrote (s out w : Bytes) (at n : ℕ) : Type 0 where
   pub ahead : Ahead s at
   pub passed : Entries (take at s)
-  pub sum : n ≡ lengths (returnedRecords (take at s))
-  pub grows : Growing out w 0 n (returnedIn s) (returnedIn (drop at s))
+  pub sum : n ≡ offsetSize + lengths (returnedRecords (take at s))
+  pub grows : Growing out w offsetSize n (returnedIn s) (returnedIn (drop at s))
 
-pub write-start : (s out : Bytes) → Entries s → AllKept (recordsIn s) → length (returnedIn s) ≤ length out → Wrote s out out 0 0
+pub write-start : (s out : Bytes) → Entries s → AllKept (recordsIn s) → {n : ℕ} → n ≡ offsetSize → n + length (returnedIn s) ≤ length out → Wrote s out out 0 n
 unfolding itemsFrom records isWhole total
-write-start s out e k fits = record {
+write-start s out e k en fits = record {
   ahead = record { entries = e; keeps = k };
   passed = refl;
-  sum = refl;
-  grows = grow-start out 0 (returnedIn s) (omega arith);
+  sum = en;
+  grows = rw en (grow-start out offsetSize (returnedIn s) (omega (arith, en)));
 }
 
 module _ {s out w : Bytes} {at n : ℕ} (h : Wrote s out w at n) where
-  pub wrote : length s ≤ at → (n ≡ lengths (returnedRecords s)) × (w ≡ putAt out 0 (returnedIn s))
+  pub wrote : length s ≤ at → (n ≡ offsetSize + lengths (returnedRecords s)) × (w ≡ putAt out offsetSize (returnedIn s))
   wrote past = let all = grown (h .grows) (none-to-come s at past) in (omega (arith, all .0, lengths-returned s), all .1)
 
   module _ {start end : ℕ} {next : Cursor} (t : Stands s at start end next) (areBytes : AreBytes s) where
@@ -128,21 +128,21 @@ module _ {s out w : Bytes} {at n : ℕ} (h : Wrote s out w at n) where
           joins = up .0 ∙ ap₂ (λ x r. recordsIn (take x s) ++ r ∷ []) (sym (t .first)) (sym one);
         }
 
-    pub sum-before : n ≡ lengths (returnedRecords (take start s))
-    sum-before = h .sum ∙ ap (λ x. lengths (returnedRecords (take x s))) (sym (t .first))
+    pub sum-before : n ≡ offsetSize + lengths (returnedRecords (take start s))
+    sum-before = h .sum ∙ ap (λ x. offsetSize + lengths (returnedRecords (take x s))) (sym (t .first))
 
     pub entry-fits : n + length (recordBytes (returnedAt s start end)) ≤ length w
     entry-fits =
         omega (arith, part-fits (h .grows) (returnedBytes here) (returnedIn (drop (next .at) s)) (one-to-come t (h .ahead)), ap length (here-bytes behind))
 
-    pub write-turn : {v : Bytes} {m : ℕ} → (m ≡ n + length (recordBytes (returnedAt s start end))) × (m ≡ lengths (returnedRecords (take end s)))
+    pub write-turn : {v : Bytes} {m : ℕ} → (m ≡ n + length (recordBytes (returnedAt s start end))) × (m ≡ offsetSize + lengths (returnedRecords (take end s)))
         → v ≡ putAt w n (recordBytes (returnedAt s start end)) → Wrote s out v (next .at) m
     write-turn em ev =
         let end-is : end ≡ next .at = sym (ap (λ c. c .at) (t .after)) in
         record {
           ahead = one-further t (h .ahead);
           passed = subst (λ x. Entries (take x s)) end-is (up-to t areBytes (h .passed) .1);
-          sum = em .1 ∙ ap (λ x. lengths (returnedRecords (take x s))) end-is;
+          sum = em .1 ∙ ap (λ x. offsetSize + lengths (returnedRecords (take x s))) end-is;
           grows =
               grow (h .grows) (returnedBytes here) (returnedIn (drop (next .at) s)) (one-to-come t (h .ahead))
               (em .0 ∙ ap (λ b. n + length b) (here-bytes behind), ev ∙ ap (putAt w n) (here-bytes behind));

@@ -24,7 +24,7 @@ use Rattle.find.specs.Returned.{flagSize, returnedSize, returnedBytes}
 use Rattle.find.proofs.Puts.{length-returned}
 use Rattle.find.proofs.Records.{record-returned}
 use Rattle.find.proofs.Finds.{entire}
-use Rattle.snapshot.specs.Returned.{returnedRecords, returnedIn, returnedAt, Behind}
+use Rattle.snapshot.specs.Returned.{returnedRecords, returnedIn, returnedAt, Behind, offsetSize}
 
 -- the sum of the entries' records' lengths is the length of their bytes
 pub lengths-returned : (s : Bytes) → lengths (returnedRecords s) ≡ length (returnedIn s)
@@ -74,7 +74,8 @@ module _ {s : Bytes} {start end : ℕ} (b : Behind s start end) where
   here-length = ap length here-bytes ∙ length-returned here (entire here (b .is))
 
   -- with this record
-  pub total-with : {n : ℕ} → n ≡ lengths (returnedRecords (take start s)) → n + length (recordBytes (returnedAt s start end)) ≡ lengths (returnedRecords (take end s))
+  pub total-with : {n : ℕ} → n ≡ offsetSize + lengths (returnedRecords (take start s))
+      → n + length (recordBytes (returnedAt s start end)) ≡ offsetSize + lengths (returnedRecords (take end s))
   unfolding total
   total-with {n} e =
       let f : Rec → Rec = λ r. returned (entryOf r) in

@@ -17,7 +17,7 @@ use Rattle.laws.specs.Numbers.{length-bytes}
 use Rattle.laws.specs.Lists.{length-joined}
 use Rattle.records.specs.Answers.{putAt, head}
 use Rattle.records.proofs.Written.{put-at-nothing, put-at-append}
-use Rattle.snapshot.specs.Returned.{numberBytes, epochBytes, kraftBytes}
+use Rattle.snapshot.specs.Returned.{offsetSize, numberBytes, offsetBytes, epochBytes, kraftBytes}
 
 -- 1. One number
 
@@ -37,7 +37,20 @@ number-written out at kind width n fits {a} {b} {c} ea eb ec =
 pub length-number : (kind width n : ℕ) → length (numberBytes kind width n) ≡ 6 + width
 length-number kind width n = omega (arith, length-bytes width n)
 
--- 2. The epoch, unless it is negative
+-- 2. The log offset
+
+pub offset-number : (n : ℕ) → offsetBytes n ≡ numberBytes 26 8 n
+unfolding recordBytes bytesOf kindNumber
+offset-number n = refl
+
+pub offset-long : (n : ℕ) → length (offsetBytes n) ≡ offsetSize
+offset-long n = ap length (offset-number n) ∙ length-number 26 8 n
+
+pub offset-written : (out : Bytes) (offset : ℕ) {n r : ℕ} {w : Bytes} → n ≡ offset → (r ≡ 14) × (w ≡ putAt out 0 (numberBytes 26 8 n))
+    → (r ≡ offsetSize) × (w ≡ putAt out 0 (offsetBytes offset))
+offset-written out offset e h = (h .0, h .1 ∙ ap (λ n. putAt out 0 (numberBytes 26 8 n)) e ∙ ap (putAt out 0) (sym (offset-number offset)))
+
+-- 3. The epoch, unless it is negative
 
 pub epoch-some : (e : ℕ) → e < half 8 → epochBytes e ≡ numberBytes 13 8 e
 unfolding epochRecords recordBytes bytesOf kindNumber
@@ -54,7 +67,7 @@ epoch-most e = go (leb (half 8) e) refl
     go true h = omega (arith, ap length (epoch-none e (leb-true (half 8) e h)))
     go false h = omega (arith, ap length (epoch-some e (leb-false (half 8) e h)), length-number 13 8 e)
 
--- 3. The kraft version, unless it is 0
+-- 4. The kraft version, unless it is 0
 
 pub kraft-some : (v : ℕ) → (v ≡ 0 → ⊥) → kraftBytes v ≡ numberBytes 10 2 v
 unfolding kraftRecords recordBytes bytesOf kindNumber
@@ -68,7 +81,7 @@ pub kraft-most : (v : ℕ) → length (kraftBytes v) ≤ 8
 kraft-most zero = omega (arith, ap length (kraft-none 0 refl))
 kraft-most (suc v) = omega (arith, ap length (kraft-some (suc v) (λ e. omega (arith, e))), length-number 10 2 (suc v))
 
--- 4. A record of the fixed parts behind the others, where there is one
+-- 5. A record of the fixed parts behind the others, where there is one
 
 module _ (rs : List Rec) (out : Bytes) (before : ℕ) where
   pub number-fits : (kind width n : ℕ) → joined recordBytes rs ≡ numberBytes kind width n → before + lengths rs ≤ length out → before + 6 + width ≤ length out

@@ -8,7 +8,7 @@ use Rattle.model.specs.Number.{Bytes, bytes}
 use Rattle.model.specs.Record.{Rec, recordBytes}
 use Rattle.model.specs.Contents.{kept, returned}
 use Rattle.model.specs.Image.{entryOf, fixedIn, contentsOf}
-use Rattle.model.specs.Snapshot.{epochRecords, kraftRecords}
+use Rattle.model.specs.Snapshot.{offsetRec, epochRecords, kraftRecords}
 use Rattle.records.specs.Answers.{head}
 use Rattle.entries.specs.Entries.{recordsIn, IsRecord, recordIn}
 
@@ -33,10 +33,13 @@ pub record Behind (s : Bytes) (start end : ℕ) : Type 0 where
   pub keeps : kept (entryOf (recordIn (take (end - start) (drop start s)))) ≡ recordIn (take (end - start) (drop start s))
   pub joins : recordsIn (take end s) ≡ recordsIn (take start s) ++ recordIn (take (end - start) (drop start s)) ∷ []
 
--- 2. The records of an image: its entries', and behind them those of the fixed parts
+-- 2. The records of an image: its log offset's, its entries', and behind them those of the epoch and the kraft version
 
-abbrev pub entryRecords : Bytes → List Rec
-entryRecords image = map returned (contentsOf image .real)
+abbrev pub offsetSize : ℕ
+offsetSize = 14
+
+abbrev pub firstRecords : Bytes → List Rec
+firstRecords image = offsetRec (fixedIn image .offset) ∷ map returned (contentsOf image .real)
 
 abbrev pub epochIn : Bytes → List Rec
 epochIn image = epochRecords (fixedIn image .epoch)
@@ -49,6 +52,9 @@ abbrev pub numberBytes : ℕ → ℕ → ℕ → Bytes
 numberBytes kind width n = head kind (3 + width) ++ head 1 width ++ bytes width n
 
 -- the bytes of the fixed parts' records
+abbrev pub offsetBytes : ℕ → Bytes
+offsetBytes n = recordBytes (offsetRec n)
+
 abbrev pub epochBytes : ℕ → Bytes
 epochBytes e = joined recordBytes (epochRecords e)
 

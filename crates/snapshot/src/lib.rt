@@ -1,4 +1,4 @@
-// Snapshot: what an image holds, as records in the order of their keys.
+// Snapshot: what an image holds, as records: the log offset, and the entries in the order of their keys.
 use entries::Cursor;
 use entries::Step;
 use find::put_returned;
@@ -7,10 +7,12 @@ use find::returned_size;
 use header::HEAD_SIZE;
 use header::epoch_in;
 use header::kraft_in;
+use header::offset_in;
 use image::is_image;
 use model::answers::Answer;
 use model::kinds::FEATURES_EPOCH;
 use model::kinds::KRAFT_VERSION;
+use model::kinds::LOG_OFFSET;
 use model::refusals::NO_IMAGE;
 use model::refusals::TOO_SHORT;
 use records::put_head;
@@ -22,21 +24,24 @@ ghost use lib.Dec.{ltb};
 ghost use lib.ListN.{length, take};
 ghost use Rattle.model.specs.Choice.{joined};
 ghost use Rattle.model.specs.Record.{recordBytes};
-ghost use Rattle.model.specs.Image.{headSize, isImage, contentsOf};
+ghost use Rattle.model.specs.Image.{headSize, fixedIn, isImage, contentsOf};
 ghost use Rattle.model.specs.Snapshot.{lengths, snapshot as snapshotRecords, emit, snapshotOf};
 ghost use Rattle.model.specs.Answers.{replied};
 ghost use Rattle.records.specs.Answers.{putAt};
 ghost use Rattle.entries.specs.Entries.{recordsIn, Entries};
 ghost use Rattle.find.specs.Found.{AllKept};
 ghost use Rattle.find.specs.Reals.{Reals};
-ghost use Rattle.snapshot.specs.Returned.{returnedRecords, returnedIn, returnedAt, Behind, entryRecords, epochIn, kraftIn, numberBytes, epochBytes, kraftBytes};
+ghost use Rattle.snapshot.specs.Returned.{returnedRecords, returnedIn, returnedAt, Behind, offsetSize, firstRecords, epochIn, kraftIn, numberBytes, offsetBytes, epochBytes, kraftBytes};
 
 const NEGATIVE: u64 = 0x8000_0000_0000_0000;
 
 const NO_VERSION: u64 = 0;
 
-// How long the records of the epoch and the kraft version are at most.
-const FIXED_MOST: usize = 14 + 8;
+// How long the log offset's record is, with which a snapshot starts.
+const OFFSET_SIZE: usize = 14;
+
+// How long the records of the offset, the epoch and the kraft version are at most.
+const FIXED_MOST: usize = OFFSET_SIZE + 14 + 8;
 
 // How long the records of some entries are.
 fn returned_length(s: &[u8]) -> usize
@@ -63,22 +68,22 @@ fn returned_length(s: &[u8]) -> usize
 
 // Places an entry's record behind the earlier ones: `total` is how long those are. The total with this one.
 fn place_entry(out: &mut [u8], total: usize, s: &[u8], start: usize, end: usize) -> usize
-    requires { ⌜ Behind (now s) start end × (total ≡ lengths (returnedRecords (take start (now s)))) ⌝ }
+    requires { ⌜ Behind (now s) start end × (total ≡ offsetSize + lengths (returnedRecords (take start (now s)))) ⌝ }
     requires { ⌜ total + length (recordBytes (returnedAt (now s) start end)) ≤ length (now out) ⌝ }
-    ensures { λ r. ⌜ (r ≡ total + length (recordBytes (returnedAt (now (s .entry)) start end))) × (r ≡ lengths (returnedRecords (take end (now (s .entry))))) ⌝ }
+    ensures { λ r. ⌜ (r ≡ total + length (recordBytes (returnedAt (now (s .entry)) start end))) × (r ≡ offsetSize + lengths (returnedRecords (take end (now (s .entry))))) ⌝ }
     ensures { λ _. ⌜ now (out .exit) ≡ putAt (now (out .entry)) total (recordBytes (returnedAt (now (s .entry)) start end)) ⌝ }
 {
     put_returned(out, total, &s[start..end]);
     total + returned_size(&s[start..end])
 }
 
-// Places the records of some entries from the start of an output on. How long they are.
-fn put_entries(out: &mut [u8], s: &[u8]) -> usize
-    requires { ⌜ Entries (now s) × AllKept (recordsIn (now s)) × (length (returnedIn (now s)) ≤ length (now out)) ⌝ }
-    ensures { λ r. ⌜ (r ≡ lengths (returnedRecords (now (s .entry)))) × (now (out .exit) ≡ putAt (now (out .entry)) 0 (returnedIn (now (s .entry)))) ⌝ }
+// Places the records of some entries behind the offset's: `offset` is how long that is. The total with these.
+fn put_entries(out: &mut [u8], offset: usize, s: &[u8]) -> usize
+    requires { ⌜ Entries (now s) × AllKept (recordsIn (now s)) × (offset ≡ offsetSize) × (offset + length (returnedIn (now s)) ≤ length (now out)) ⌝ }
+    ensures { λ r. ⌜ (r ≡ offset + lengths (returnedRecords (now (s .entry)))) × (now (out .exit) ≡ putAt (now (out .entry)) offset (returnedIn (now (s .entry)))) ⌝ }
 {
     let mut c = Cursor { at: 0 };
-    let mut total = 0;
+    let mut total = offset;
     loop {
         match c.next(s) {
             Step::Entry(start, end, next) => {
@@ -106,6 +111,14 @@ fn put_number(out: &mut [u8], at: usize, kind: u8, width: usize, n: u64) -> usiz
     at + 6 + width
 }
 
+// Places the log offset's record at the start of an output. How long it is.
+fn put_offset(out: &mut [u8], image: &[u8]) -> usize
+    requires { ⌜ (headSize ≤ length (now image)) × (offsetSize ≤ length (now out)) ⌝ }
+    ensures { λ r. ⌜ (r ≡ offsetSize) × (now (out .exit) ≡ putAt (now (out .entry)) 0 (offsetBytes (fixedIn (now (image .entry)) .offset))) ⌝ }
+{
+    put_number(out, 0, LOG_OFFSET, 8, offset_in(image))
+}
+
 // How long the epoch's record is, 0 where there is none.
 fn epoch_length(epoch: u64) -> usize
     ensures { λ r. ⌜ (r ≡ length (epochBytes epoch)) × (r ≤ 14) ⌝ }
@@ -126,9 +139,9 @@ fn kraft_length(kraft: u64) -> usize
     8
 }
 
-// Places the epoch's record, where there is one, behind the entries': `total` is how long those are. The total with this one.
+// Places the epoch's record, where there is one, behind the offset's and the entries': `total` is how long those are. The total with this one.
 fn put_epoch(out: &mut [u8], total: usize, image: &[u8]) -> usize
-    requires { ⌜ (headSize ≤ length (now image)) × (total ≡ lengths (entryRecords (now image))) ⌝ }
+    requires { ⌜ (headSize ≤ length (now image)) × (total ≡ lengths (firstRecords (now image))) ⌝ }
     requires { ⌜ total + lengths (epochIn (now image)) ≤ length (now out) ⌝ }
     ensures { λ r. ⌜ (r ≡ total + lengths (epochIn (now (image .entry)))) × (now (out .exit) ≡ putAt (now (out .entry)) total (joined recordBytes (epochIn (now (image .entry))))) ⌝ }
 {
@@ -141,7 +154,7 @@ fn put_epoch(out: &mut [u8], total: usize, image: &[u8]) -> usize
 
 // Places the kraft version's record, where there is one, behind those: `total` is how long they are. The total with this one.
 fn put_kraft(out: &mut [u8], total: usize, image: &[u8]) -> usize
-    requires { ⌜ (headSize ≤ length (now image)) × (total ≡ lengths (entryRecords (now image) ++ epochIn (now image))) ⌝ }
+    requires { ⌜ (headSize ≤ length (now image)) × (total ≡ lengths (firstRecords (now image) ++ epochIn (now image))) ⌝ }
     requires { ⌜ total + lengths (kraftIn (now image)) ≤ length (now out) ⌝ }
     ensures { λ r. ⌜ (r ≡ total + lengths (kraftIn (now (image .entry)))) × (now (out .exit) ≡ putAt (now (out .entry)) total (joined recordBytes (kraftIn (now (image .entry))))) ⌝ }
 {
@@ -152,7 +165,7 @@ fn put_kraft(out: &mut [u8], total: usize, image: &[u8]) -> usize
     put_number(out, total, KRAFT_VERSION, 2, kraft)
 }
 
-// Whether an output is too short for an image's records, whose entries end at `end`. They are no longer than the entries and the two longest
+// Whether an output is too short for an image's records, whose entries end at `end`. They are no longer than the entries and the three longest
 // records of the fixed parts: only an output that is shorter than that is held to their very length, which takes a walk.
 fn is_too_short(image: &[u8], end: usize, room: usize) -> bool
     requires { ⌜ Reals (now image) end ⌝ }
@@ -162,7 +175,7 @@ fn is_too_short(image: &[u8], end: usize, room: usize) -> bool
         return false;
     }
     let entries = returned_length(&image[HEAD_SIZE..end]);
-    room < entries + epoch_length(epoch_in(image)) + kraft_length(kraft_in(image))
+    room < OFFSET_SIZE + entries + epoch_length(epoch_in(image)) + kraft_length(kraft_in(image))
 }
 
 // Writes an image's records. The bytes written, or 19 and nothing is written.
@@ -175,7 +188,8 @@ fn emit_records(image: &[u8], out: &mut [u8]) -> Answer
     if is_too_short(image, end, out.len()) {
         return Answer::Refused(TOO_SHORT);
     }
-    let entries = put_entries(out, &image[HEAD_SIZE..end]);
+    let offset = put_offset(out, image);
+    let entries = put_entries(out, offset, &image[HEAD_SIZE..end]);
     let total = put_epoch(out, entries, image);
     Answer::Used(put_kraft(out, total, image))
 }

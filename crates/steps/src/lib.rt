@@ -12,16 +12,16 @@ pub struct Said {
     pub apply: u8,
 }
 
-// Gives a record to Validate and, where that says 0, to Apply.
-pub fn give(image: &mut [u8], input: &[u8]) -> Said
-    ensures { λ r. ⌜ verdictOf r ≡ judged (now (input .entry)) (now (image .entry)) ⌝ }
-    ensures { λ _. ⌜ now (image .exit) ≡ imageAfter (now (input .entry)) (now (image .entry)) ⌝ }
+// Gives a record to Validate and, where that says 0, to Apply at its log offset.
+pub fn give(image: &mut [u8], offset: u64, input: &[u8]) -> Said
+    ensures { λ r. ⌜ verdictOf r ≡ judged offset (now (input .entry)) (now (image .entry)) ⌝ }
+    ensures { λ _. ⌜ now (image .exit) ≡ imageAfter offset (now (input .entry)) (now (image .entry)) ⌝ }
 {
     let validate = validate::validate(image, input);
     if validate != 0 {
         return Said { validate, apply: 0 };
     }
-    let apply = apply::apply(image, input);
+    let apply = apply::apply(image, offset, input);
     Said { validate, apply }
 }
 

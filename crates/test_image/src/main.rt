@@ -10,6 +10,7 @@
 //     06 IMAGE                                 the features epoch
 //     07 IMAGE                                 how many partitions are short
 //     08 CAPACITY(3) BYTES                     the exact test of a buffer of BYTES and zeros after them
+//     09 IMAGE                                 the log offset, as an unsigned number of its bits
 mod lookups;
 mod print;
 
@@ -104,7 +105,8 @@ fn answer(bytes: &[u8], work: &mut [u8]) {
         6 => print::print_value(lookup::features_epoch(rest)),
         7 => print::print_value(lookup::short_count(rest)),
         8 => print_sized(false, rest, work),
-        9..=255 => print_line(b"no line"),
+        9 => print::print_value(lookup::log_offset(rest)),
+        10..=255 => print_line(b"no line"),
     }
 }
 

@@ -40,19 +40,28 @@ pub fn open(work: &mut [u8], rest: &[u8]) -> usize {
     capacity
 }
 
-fn apply_in(image: &mut [u8], record: &[u8]) {
-    let number = apply::apply(image, record);
+fn apply_in(image: &mut [u8], offset: u64, record: &[u8]) {
+    let number = apply::apply(image, offset, record);
     print_next(wide(number));
     print_buffer(image);
 }
 
-// One record of a history.
-pub fn step(always: bool, image: &mut [u8], record: &[u8]) {
+// One record of a history, at its log offset.
+fn give(always: bool, image: &mut [u8], offset: u64, record: &[u8]) {
     let number = validate::validate(image, record);
     print_next(wide(number));
     if always || number == 0 {
-        apply_in(image, record);
+        apply_in(image, offset, record);
     }
+}
+
+// The log offset in eight bytes, and the record.
+pub fn step(always: bool, image: &mut [u8], rest: &[u8]) {
+    if rest.len() < 8 {
+        print_no_line();
+        return;
+    }
+    give(always, image, wire::get(rest, 0, 8), &rest[8..]);
 }
 
 fn print_restored(restored: Restored) {

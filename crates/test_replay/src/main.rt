@@ -1,8 +1,8 @@
 // Replays stored histories, one operation to a line in hexadecimal, and writes what each answers. The first byte of a line is the operation:
 //
 //     00 CAPACITY(3)        Open of a buffer of so many bytes, each of them 0xaa
-//     01 RECORD             Validate, and Apply where it says 0
-//     02 RECORD             Validate, and Apply whatever it says
+//     01 OFFSET(8) RECORD   Validate, and Apply where it says 0
+//     02 OFFSET(8) RECORD   Validate, and Apply whatever it says
 //     03                    a cut: Snapshot, and Restore of what it wrote into a buffer of 0xaa
 //     04 BYTES              Restore of any bytes
 //     05                    Snapshot
@@ -10,10 +10,11 @@
 //     07 KIND NODE(8)       the throttle of a node
 //     08 LEVEL(2)           the listing for a downgrade
 //     09 NUMBER(4) NAME     the partition of a topic and a number
+//     0a                    the log offset
 //
 // A line of the output has the place of its operation, from 1, and then: the numbers that it says (Validate's and Apply's; Snapshot's and Restore's;
 // a refused Restore's with its place); after Open, Apply and Restore the used length and a digest of the whole buffer; of what writes records how
-// many bytes and their digest; of a throttle the rate where there is one.
+// many bytes and their digest; of a throttle the rate where there is one; the log offset as an unsigned number of its bits.
 mod history;
 mod questions;
 

@@ -1,6 +1,7 @@
 // What changes no image: Snapshot, the lookups, the listing for a downgrade.
 use model::NodeId;
 use model::answers::Rated;
+use model::answers::Value;
 use test_answer_lines::print_next;
 use test_answer_lines::print_no_line;
 use test_answer_lines::print_written;
@@ -45,6 +46,16 @@ fn partition(image: &[u8], out: &mut [u8], rest: &[u8]) {
     print_written(answer, out);
 }
 
+fn log_offset(image: &[u8]) {
+    match lookup::log_offset(image) {
+        Value::Is(offset) => {
+            print_next(0);
+            print_next(offset);
+        }
+        Value::Refused(number) => print_next(wide(number)),
+    }
+}
+
 // One question to an image.
 pub fn ask(operation: u8, image: &[u8], out: &mut [u8], rest: &[u8]) {
     match operation {
@@ -56,6 +67,7 @@ pub fn ask(operation: u8, image: &[u8], out: &mut [u8], rest: &[u8]) {
         7 => throttle(image, rest),
         8 => downgrade(image, out, rest),
         9 => partition(image, out, rest),
-        0..=4 | 10..=255 => print_no_line(),
+        10 => log_offset(image),
+        0..=4 | 11..=255 => print_no_line(),
     }
 }

@@ -76,13 +76,20 @@ fn changed(course: Course, after: Said) -> Course
 }
 
 // Gives the record to the other image, where a restart is asked for.
-fn with_verdict(other: &mut [u8], rec: &[u8], said: Said, cuts: Cuts, course: Course) -> Course
+fn with_verdict(
+    other: &mut [u8],
+    offset: u64,
+    rec: &[u8],
+    said: Said,
+    cuts: Cuts,
+    course: Course,
+) -> Course
     ensures { λ r. ⌜ r .records ≡ course .records ⌝ }
 {
     if !course.written || !cuts.any {
         return course;
     }
-    let after = give(other, rec);
+    let after = give(other, offset, rec);
     if is_same(said, after) {
         return course;
     }
@@ -143,7 +150,8 @@ fn with_snapshots(plain: &[u8], other: &[u8], course: Course) -> Course
     compared(course, answer.same, answer.written)
 }
 
-// One record: its verdicts, the restart behind it, and the snapshots once there was one.
+// One record: its verdicts, the restart behind it, and the snapshots once there was one. Its log offset is the number of records before it,
+// refused or not.
 pub fn turn(
     plain: &mut [u8],
     other: &mut [u8],
@@ -155,9 +163,10 @@ pub fn turn(
     requires { ⌜ course .records < 9223372036854775807 ⌝ }
     ensures { λ r. ⌜ r .records ≡ course .records + 1 ⌝ }
 {
-    let said = give(plain, rec);
+    let offset = course.records;
+    let said = give(plain, offset, rec);
     let first = counted(course, say_line(place, rec, said));
-    let second = with_verdict(other, rec, said, cuts, first);
+    let second = with_verdict(other, offset, rec, said, cuts, first);
     let third = with_restart(other, cuts, second);
     with_snapshots(plain, other, third)
 }

@@ -10,6 +10,7 @@ use tool_course::run::run;
 use tool_course::turns::Course;
 use tool_parting::ids::renamed;
 use tool_report::exists::say_all;
+use tool_report::exists::say_log_offset;
 use tool_words::complain;
 use tool_words::say;
 use tool_words::say_of;
@@ -31,7 +32,7 @@ fn say_changes(course: Course, ids: u64) -> bool {
         && say(b"\n")
 }
 
-// What exists after the history, and what the restarts changed, where some were asked for.
+// What exists after the history, what the restarts changed, where some were asked for, and how far it got.
 fn say_end(course: Course, plain: &[u8], cut: &[u8], cuts: Cuts) -> bool {
     let mut out = io::large_buffer();
     if !say_of(b"records: ", course.records) || !say(b"\n") {
@@ -41,16 +42,16 @@ fn say_end(course: Course, plain: &[u8], cut: &[u8], cuts: Cuts) -> bool {
         return false;
     }
     if !cuts.any {
-        return true;
+        return say_log_offset(plain);
     }
     let ids = renamed(plain, cut, &mut out);
-    ids.written && say_changes(course, ids.count)
+    ids.written && say_changes(course, ids.count) && say_log_offset(plain)
 }
 
 // The history on two fresh images, one of them with the restarts. Whether the file could be read: nothing is said to exist where it could not.
 fn inspect(fd: i32, plain: &mut [u8], cut: &mut [u8], cuts: Cuts) -> bool {
     if header::open(plain) != 0 {
-        complain(b"a capacity is from 128 to 65536");
+        complain(b"a capacity is from 144 to 65536");
         return true;
     }
     header::open(cut);
@@ -64,7 +65,7 @@ fn inspect(fd: i32, plain: &mut [u8], cut: &mut [u8], cuts: Cuts) -> bool {
 // Two images of a capacity, in buffers of the greatest one. Whether the file could be read.
 fn inspect_at(fd: i32, plain: &mut [u8], cut: &mut [u8], capacity: usize, cuts: Cuts) -> bool {
     if plain.len() < capacity {
-        complain(b"a capacity is from 128 to 65536");
+        complain(b"a capacity is from 144 to 65536");
         return true;
     }
     if cut.len() < capacity {

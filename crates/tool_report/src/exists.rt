@@ -1,6 +1,7 @@
 // What exists in an image: its snapshot read record by record.
 use crate::quotas::say_quota;
 use crate::topics::say_topic;
+use header::NO_OFFSET;
 use image::is_image;
 use model::NodeId;
 use model::answers::Rated;
@@ -145,6 +146,22 @@ fn say_weight(image: &[u8]) -> bool {
     say_of(b"weight: ", find::weight(image) as u64)
         && say_of(b" of ", image.len() as u64)
         && say(b"\n")
+}
+
+// A log offset: the only one of an image that is negative is -1.
+fn say_offset(offset: u64) -> bool {
+    if offset == NO_OFFSET {
+        return say(b"log offset: -1\n");
+    }
+    say_of(b"log offset: ", offset) && say(b"\n")
+}
+
+// How far an image got in the log.
+pub fn say_log_offset(image: &[u8]) -> bool {
+    match lookup::log_offset(image) {
+        Value::Is(offset) => say_offset(offset),
+        Value::Refused(number) => true,
+    }
 }
 
 // What an image holds.

@@ -71,6 +71,7 @@ pub fn say_kind(kind: u8) -> bool {
         PartitionUpdate\n\
         BrokerRegistrationChange\n\
         UnregisterController\n\
+        LogOffset\n\
         no kind",
         kind,
     )
@@ -100,8 +101,8 @@ pub fn say_verdict(number: u8) -> bool {
         no room\n\
         the output is too short\n\
         a node twice in the replicas\n\
-        no verdict\n\
-        no verdict\n\
+        the log offset is not above the stored one\n\
+        the log offset is missing at the start, or stands later\n\
         no verdict\n\
         an unlawful topic name\n\
         no verdict",

@@ -7,7 +7,7 @@ use borrow.Author.Tests.{not-true, not-false}
 use lib.ListN.{take, drop}
 use Rattle.model.specs.Number.{Bytes, AreBytes}
 use Rattle.model.specs.Shape.{logged}
-use Rattle.model.specs.Record.{read, readOf}
+use Rattle.model.specs.Record.{read}
 use Rattle.model.specs.Image.{headSize, entryOf, isImage, contentsOf}
 use Rattle.model.specs.Reply.{accepted, refused}
 use Rattle.model.specs.Validate.{judge, validateOf}
@@ -17,6 +17,7 @@ use Rattle.find.specs.Logged.{loggedIn}
 use Rattle.find.specs.Reals.{Reals}
 use Rattle.find.proofs.Lent.{lent-held}
 use Rattle.find.proofs.Logged.{it, logged-is}
+use Rattle.records.specs.Answers.{gotReply}
 use Rattle.records.proofs.Replies.{refused-bad}
 
 module _ (image input : Bytes) {is : Bool} (ei : is ≡ isImage image) where
@@ -28,11 +29,11 @@ module _ (image input : Bytes) {is : Bool} (ei : is ≡ isImage image) where
     pub image-is : isImage image ≡ true
     image-is = sym ei ∙ not-false is h
 
-    pub read-refused : {n : ℕ} → refused n ≡ readOf input → numberReply n ≡ validateOf image input
-    unfolding validateOf readOf
+    pub read-refused : {n : ℕ} → refused n ≡ gotReply (read logged input) → numberReply n ≡ validateOf image input
+    unfolding validateOf
     read-refused {n} e = rw (image-is, refused-bad (read logged input) n e)
 
-    pub judged : (areBytes : AreBytes input) {n end j : ℕ} (e : accepted (n ∷ []) ≡ readOf input) (r : Reals image end)
+    pub judged : (areBytes : AreBytes input) {n end j : ℕ} (e : accepted (n ∷ []) ≡ gotReply (read logged input)) (r : Reals image end)
         → j ≡ judge (loggedIn (take n input)) (map entryOf (recordsIn (take (end - headSize) (drop headSize image)))) → numberReply j ≡ validateOf image input
     unfolding validateOf
     judged areBytes {n} {end} {j} e r q =

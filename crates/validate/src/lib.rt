@@ -5,7 +5,7 @@ use image::is_image;
 use judge::judge;
 use model::answers::Answer;
 use model::refusals::NO_IMAGE;
-use records::read;
+use records::read_logged;
 ghost use mathlib.Core.Path.{_≡_};
 ghost use Rattle.model.specs.Validate.{validateOf};
 ghost use Rattle.model.specs.Answers.{numberReply};
@@ -17,7 +17,7 @@ pub fn validate(image: &[u8], input: &[u8]) -> u8
     if !is_image(image) {
         return NO_IMAGE;
     }
-    match read(input) {
+    match read_logged(input) {
         Answer::Refused(number) => number,
         Answer::Used(n) => {
             let end = reals_end(image);

@@ -11,8 +11,13 @@ ghost use lib.ListN.{length, take, drop, replicate};
 ghost use lib.Seq.{slice, paste};
 ghost use lib.Dec.{eqb};
 ghost use Rattle.model.specs.Choice.{every};
-ghost use Rattle.model.specs.Number.{number, bytes, span};
+ghost use Rattle.model.specs.Number.{number, bytes, span, place as placeAmong, isOffset};
 ghost use Rattle.model.specs.Order.{compareBytes, sameBytes, ordering};
+
+// The first number of eight bytes that is negative when signed, which is the place of 0 among the signed ones; and -1.
+pub const HALF: u64 = 0x8000_0000_0000_0000;
+
+const MINUS_ONE: u64 = 0xffff_ffff_ffff_ffff;
 
 // A byte as a wide number.
 pub fn wide(x: u8) -> u64
@@ -62,6 +67,26 @@ pub fn put(s: &mut [u8], at: usize, width: usize, n: u64)
         s[at + i] = (rest % 256) as u8;
         rest = rest / 256;
     }
+}
+
+// The place of a number of eight bytes among the signed ones, and the number whose place is given: the sign bit is turned.
+pub fn place(n: u64) -> u64
+    ensures { λ r. ⌜ r ≡ placeAmong 8 n ⌝ }
+{
+    if n < HALF {
+        return n + HALF;
+    }
+    n - HALF
+}
+
+// Whether a number of eight bytes is a log offset: -1, or not negative.
+pub fn is_offset(n: u64) -> bool
+    ensures { λ r. ⌜ r ≡ isOffset n ⌝ }
+{
+    if n < HALF {
+        return true;
+    }
+    n == MINUS_ONE
 }
 
 // The order of two byte strings: byte by byte, a string before its longer continuations.

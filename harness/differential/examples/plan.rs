@@ -5,7 +5,7 @@
 use std::error::Error;
 use std::{env, fs};
 
-use differential::{apply, open, partition, read, restore, snapshot, validate};
+use differential::{apply, log_offset, open, partition, read, restore, snapshot, validate};
 
 const CAPACITY: usize = 4_096;
 const PLAN: &str = "plan-0042";
@@ -30,14 +30,15 @@ fn told<T>(call: &str, answer: Result<T, u8>) -> Result<T, String> {
     answer.map_err(|number| format!("{call}: refused, {number}"))
 }
 
-/// Gives each record to Validate and, where that says 0, to Apply.
+/// Gives each record to Validate and, where that says 0, to Apply. Its log offset
+/// is its number, from 0.
 fn take(image: &mut [u8], records: &[u8]) -> Result<(), Box<dyn Error>> {
     let (mut at, mut count, mut applied) = (0, 0, 0);
     while at < records.len() {
         let used = told("Read", read(&records[at..]))?;
         let record = &records[at..at + used];
         let number = match validate(image, record) {
-            0 => apply(image, record),
+            0 => apply(image, count, record),
             refused => refused,
         };
         match number {
@@ -51,13 +52,16 @@ fn take(image: &mut [u8], records: &[u8]) -> Result<(), Box<dyn Error>> {
     Ok(())
 }
 
-/// Says whether partitions 0 and 1 exist.
+/// Says whether partitions 0 and 1 exist, and how far the image got in the log.
 fn say(image: &[u8], when: &str) -> Result<(), Box<dyn Error>> {
     let exists = |number| {
         let answer = partition(image, PLAN.as_bytes(), number, &mut [0; CAPACITY]);
         told("partition", answer).map(|length| if length > 0 { "yes" } else { "no" })
     };
     let (rooms, loads) = (exists(0)?, exists(1)?);
-    println!("{PLAN}, {when}: partition 0 {rooms}, partition 1 {loads}");
+    let mut offset = [0];
+    told("log offset", log_offset(image, &mut offset))?;
+    let offset = offset[0].cast_signed();
+    println!("{PLAN}, {when}: partition 0 {rooms}, partition 1 {loads}; log offset {offset}");
     Ok(())
 }

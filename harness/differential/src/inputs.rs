@@ -1,15 +1,18 @@
 //! Inputs drawn from a seed: records, good and damaged.
 
 use oracle::generate::{Generator, Knobs};
-use wire::{Lists, Random, damaged, encoded};
+use wire::{Lists, Random, damaged, encoded, encoded_offset};
 
 /// The records of one generated history.
 const HISTORY: usize = 200;
 /// The damaged copies of each record, each of them damaged again by the next.
 const DAMAGED: usize = 7;
 
-/// Byte strings without end: each record of a generated history, then damaged
-/// copies of it.
+/// The log offsets beside each history.
+const OFFSETS: usize = 8;
+
+/// Byte strings without end: each record of a generated history, and log offsets
+/// beside it, then damaged copies of it.
 pub struct Inputs {
     seed: u64,
     random: Random,
@@ -32,8 +35,10 @@ impl Inputs {
             old_names: true,
             ..Knobs::default()
         };
-        for record in Generator::new(self.seed, knobs).history(HISTORY) {
-            let mut bytes = encoded(&record);
+        let history = Generator::new(self.seed, knobs).history(HISTORY);
+        let mut good: Vec<Vec<u8>> = history.iter().map(encoded).collect();
+        good.extend((0..OFFSETS).map(|_| encoded_offset(self.random.bits() as i64)));
+        for mut bytes in good {
             for _ in 0..DAMAGED {
                 let next = damaged(&mut self.random, &bytes);
                 self.waiting.push(bytes);

@@ -9,6 +9,7 @@ pub mod histories;
 #[cfg(feature = "images")]
 pub mod images;
 mod inputs;
+mod offsets;
 mod program;
 mod replicas;
 pub mod timing;
@@ -16,6 +17,7 @@ mod typical;
 
 pub use entry::*;
 pub use inputs::Inputs;
+pub use offsets::log_offsets;
 pub use program::{Asked, Compared, Comparison, Help};
 pub use replicas::replica_lists;
 pub use typical::typical;

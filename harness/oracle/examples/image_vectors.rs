@@ -8,11 +8,11 @@ use krabka_metadata::{MetadataImage, MetadataRecord, NodeId, PartitionRecord};
 use oracle::cases::cases;
 use oracle::facts::build;
 use oracle::image::{FIXED_ROOM, MOST_CAPACITY, layout, weight};
-use oracle::layout::Layout;
+use oracle::layout::{Layout, former};
 use oracle::observe::{Witness, observe};
 use oracle::stored::Stored;
 use uuid::Uuid;
-use wire::{TOO_SHORT, encoded, hex};
+use wire::{NO_RECORD, TOO_SHORT, encoded, hex};
 
 const OPEN: u8 = 0;
 const EXACT: u8 = 1;
@@ -23,6 +23,7 @@ const BROKER: u8 = 5;
 const EPOCH: u8 = 6;
 const SHORT: u8 = 7;
 const EXACT_PADDED: u8 = 8;
+const LOG_OFFSET: u8 = 9;
 
 /// Cases up to this many bytes stand in their lines whole.
 const WHOLE: usize = 256;
@@ -51,9 +52,9 @@ fn bytes_of(number: usize, width: usize) -> Vec<u8> {
 
 /// Open on buffers that hold something.
 fn open(lines: &mut Stored) {
-    let fills: [&[u8]; 4] = [&[], &[0], &[0xff], b"KRABKA\x00\x01 and more"];
+    let fills: [&[u8]; 4] = [&[], &[0], &[0xff], b"KRABKA\x00\x02 and more"];
     for capacity in [
-        0, 1, 63, 64, 127, 128, 129, 4_096, 65_535, 65_536, 65_537, 70_000,
+        0, 1, 63, 64, 128, 143, 144, 145, 4_096, 65_535, 65_536, 65_537, 70_000,
     ] {
         lines.title(&format!("Open at {capacity}"));
         for fill in fills {
@@ -72,6 +73,7 @@ fn opened(dirty: Vec<u8>) -> String {
     let fresh = Layout {
         epoch: -1,
         kraft: 0,
+        offset: NO_RECORD,
         entries: Vec::new(),
     };
     let image = fresh.bytes(dirty.len());
@@ -136,7 +138,7 @@ fn lookups(lines: &mut Stored) {
     let image = MetadataImage::from_records(Uuid::nil(), &records);
     let mut witness = Witness::default();
     records.iter().for_each(|record| witness.see(record));
-    let observed = observe(&image, &witness);
+    let observed = observe(&image, &witness).at(records.len() as i64 - 1);
     let bytes = layout(&observed).bytes(weight(&observed));
     let mut damaged = bytes.clone();
     damaged[12] = 1;
@@ -145,11 +147,33 @@ fn lookups(lines: &mut Stored) {
     asked.ids(lines);
     asked.partitions(lines);
     asked.brokers(lines);
-    lines.title("the features epoch, and how many partitions are short");
+    lines.title("the features epoch, how many partitions are short, and the log offset");
     let epoch = asked.image.finalized_features_epoch().cast_unsigned();
     lines.push(EPOCH, &[&asked.bytes], &format!("0 {epoch}"));
     lines.push(SHORT, &[&asked.bytes], &format!("0 {}", observed.short));
+    lines.push(
+        LOG_OFFSET,
+        &[&asked.bytes],
+        &format!("0 {}", observed.offset),
+    );
+    log_offsets(lines);
     no_image(lines, &damaged);
+    no_image(lines, &former(&asked.bytes));
+}
+
+/// The log offset of images that hold nothing else, at both ends of what it may be.
+fn log_offsets(lines: &mut Stored) {
+    lines.title("the log offset");
+    let fresh = observe(&MetadataImage::new(Uuid::nil()), &Witness::default());
+    for offset in [NO_RECORD, 0, 1, 1 << 40, i64::MAX] {
+        let image = layout(&fresh.clone().at(offset)).bytes(FIXED_ROOM);
+        let answer = format!("0 {}", offset.cast_unsigned());
+        lines.push(LOG_OFFSET, &[&image], &answer);
+    }
+    for offset in [-2, i64::MIN] {
+        let image = layout(&fresh.clone().at(offset)).bytes(FIXED_ROOM);
+        lines.push(LOG_OFFSET, &[&image], "1");
+    }
 }
 
 struct Asked {
@@ -270,4 +294,5 @@ fn no_image(lines: &mut Stored, buffer: &[u8]) {
     lines.push(BROKER, &[&room, &[0; 8], buffer], "1");
     lines.push(EPOCH, &[buffer], "1");
     lines.push(SHORT, &[buffer], "1");
+    lines.push(LOG_OFFSET, &[buffer], "1");
 }

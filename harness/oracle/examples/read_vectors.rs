@@ -6,7 +6,7 @@
 use oracle::facts::build::partition_record;
 use oracle::generate::{Generator, Knobs};
 use oracle::stored::Stored;
-use wire::{Random, damaged, encoded, field, read};
+use wire::{LOG_OFFSET, NO_RECORD, Random, damaged, encoded, encoded_offset, field, read};
 
 const SEED: u64 = 4;
 const GOOD: usize = 260;
@@ -44,7 +44,7 @@ fn inputs() -> Vec<Vec<u8>> {
     inputs
 }
 
-/// Empty and cut headers, unknown kinds, lengths that lie, the longest body, map order, limits, and replica lists.
+/// Empty and cut headers, unknown kinds, lengths that lie, the longest body, map order, limits, replica lists, and log offsets.
 fn edges() -> Vec<Vec<u8>> {
     let level: &[u8] = &[11, 0, 9, 1, 0, 1, b'a', 2, 0, 2, 0, 1];
     let mut edges: Vec<Vec<u8>> = (0..=level.len()).map(|n| level[..n].to_vec()).collect();
@@ -55,7 +55,7 @@ fn edges() -> Vec<Vec<u8>> {
             edges.push(changed);
         }
     }
-    for kind in [0, 26, 255] {
+    for kind in [0, 26, 27, 255] {
         edges.push(vec![kind, 0, 0]);
     }
     for length in [254, 255, 256] {
@@ -93,7 +93,23 @@ fn edges() -> Vec<Vec<u8>> {
     let mut longest = vec![2, 0xff, 0xff];
     longest.resize(3 + 65_535, 0);
     edges.push(longest);
+    edges.extend(offsets());
     edges
+}
+
+/// Log offsets from -1 on, those below, and bodies that are none.
+fn offsets() -> Vec<Vec<u8>> {
+    let numbers = [NO_RECORD, 0, 1, i64::MAX, -2, -257, i64::MIN + 1, i64::MIN];
+    let mut offsets: Vec<Vec<u8>> = numbers.map(encoded_offset).to_vec();
+    let whole = encoded_offset(5);
+    offsets.extend((1..whole.len()).map(|end| whole[..end].to_vec()));
+    for length in [0, 1, 7, 9, 16] {
+        offsets.push(run(LOG_OFFSET, &[(1, vec![0; length])]));
+    }
+    offsets.push(run(LOG_OFFSET, &[(2, vec![0; 8])]));
+    offsets.push(run(LOG_OFFSET, &[(1, vec![0; 8]), (1, vec![0; 8])]));
+    offsets.push([whole, vec![7; 20]].concat());
+    offsets
 }
 
 fn run(kind: u8, fields: &[(u8, Vec<u8>)]) -> Vec<u8> {

@@ -9,6 +9,7 @@ use krabka_metadata::{LeaderEpoch, MetadataRecord, NodeId, PartitionRecord, Patt
 use oracle::facts::build::{
     broker, broker_config, delete_topic, features_epoch, freeze, partition, quota, topic,
 };
+use oracle::snapshot::starting;
 use wire::encoded_all;
 
 const BROKERS: [u64; 3] = [1, 2, 3];
@@ -25,6 +26,7 @@ fn main() {
     write("unmet.records", &encoded_all(&unmet()));
     write("empty.records", &[]);
     write("unlawful.records", &encoded_all(&unlawful()));
+    write("snapshot.records", &starting(41, &encoded_all(&leaders())));
     write(
         "quotas.records",
         &encoded_all(&[leaders(), quotas()].concat()),
@@ -67,7 +69,8 @@ fn unlawful() -> Vec<MetadataRecord> {
     ]
 }
 
-/// A topic with leaders at epochs of both signs.
+/// A topic with leaders at epochs of both signs: also the records of a snapshot,
+/// whose log offset is no record of the log.
 fn leaders() -> Vec<MetadataRecord> {
     let led = |number, leader, epoch| {
         MetadataRecord::V1Partition(PartitionRecord {

@@ -13,7 +13,7 @@ use krabka_metadata::{MetadataImage, MetadataRecord};
 use uuid::Uuid;
 
 use crate::image::layout;
-use crate::layout::Layout;
+use crate::layout::{Layout, former};
 use crate::observe::{Witness, observe};
 
 /// Room for every case that is not about its capacity.
@@ -33,6 +33,7 @@ pub fn cases() -> Vec<Case> {
     groups::add(&mut cases);
     topics::add(&mut cases);
     weight::add(&mut cases);
+    cases.former();
     cases.list
 }
 
@@ -48,6 +49,19 @@ impl Cases {
 
     fn no_image(&mut self, name: impl Into<String>, bytes: Vec<u8>) {
         self.push(name, bytes, false);
+    }
+
+    /// Each of the images, in the layout from before the log offset.
+    fn former(&mut self) {
+        let images = self.list.iter().filter(|case| case.is_image);
+        let former: Vec<Case> = images
+            .map(|case| Case {
+                name: format!("{}, of the former version", case.name),
+                bytes: former(&case.bytes),
+                is_image: false,
+            })
+            .collect();
+        self.list.extend(former);
     }
 
     fn push(&mut self, name: impl Into<String>, bytes: Vec<u8>, is_image: bool) {

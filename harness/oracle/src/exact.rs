@@ -1,14 +1,15 @@
-//! Whether a buffer is an image: 01's paragraph "Room" and docs/FORMAT.md, clause
-//! by clause, on decoded records. It is made to be read beside them, not to be
+//! Whether a buffer is an image: 01's paragraph "Room", 02's on the log offset and
+//! docs/FORMAT.md, clause by clause, on decoded records. It is made to be read beside them, not to be
 //! fast, and has nothing from the proved test.
 
 mod entries;
 mod rules;
 
 use crate::image::{FIXED_ROOM, MOST_CAPACITY};
-use crate::layout::{HEAD_SIZE, MARK};
+use crate::layout::{HEAD_SIZE, MARK, OFFSET};
 use entries::{Entry, entries};
 use rules::{is_empty_group, is_stored};
+use wire::NO_RECORD;
 
 pub fn is_image(buffer: &[u8]) -> bool {
     let capacity = buffer.len();
@@ -31,21 +32,23 @@ pub fn is_image(buffer: &[u8]) -> bool {
         && weight(&entries) <= capacity
 }
 
-/// The bytes of the entries, where the header is right and zeros come after
-/// the used part.
+/// The bytes of the entries, where the header is right, the log offset not below
+/// -1, and zeros come after the used part.
 fn used_part(buffer: &[u8]) -> Option<&[u8]> {
     let zero = |bytes: &[u8]| bytes.iter().all(|byte| *byte == 0);
     let used = u32::from_be_bytes(buffer[8..12].try_into().expect("four bytes"));
     let used = usize::try_from(used).expect("a number of four bytes");
     let entries = buffer.get(HEAD_SIZE..used)?;
+    let offset = i64::from_be_bytes(buffer[OFFSET].try_into().expect("eight bytes"));
     let holds = buffer[..8] == MARK
         && zero(&buffer[12..16])
-        && zero(&buffer[26..HEAD_SIZE])
+        && zero(&buffer[26..OFFSET.start])
+        && offset >= NO_RECORD
         && zero(&buffer[used..]);
     holds.then_some(entries)
 }
 
-/// 128, plus the records other than kinds 8, 10 and 13, plus 8 for each topic.
+/// 144, plus the records other than kinds 8, 10 and 13, plus 8 for each topic.
 fn weight(entries: &[Entry]) -> usize {
     FIXED_ROOM + entries.iter().map(rules::weight).sum::<usize>()
 }

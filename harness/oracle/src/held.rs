@@ -4,14 +4,14 @@
 use std::collections::BTreeSet;
 
 use krabka_metadata::MetadataRecord;
-use wire::decode;
+use wire::{decode, read};
 
 /// Whether no quota names a type twice among the records at the start of the
 /// bytes, up to what is no record.
 pub fn is_held(run: &[u8]) -> bool {
     let mut rest = run;
-    while let Ok((record, used)) = decode(rest) {
-        if names_a_type_twice(&record) {
+    while let Ok(used) = read(rest) {
+        if decode(rest).is_ok_and(|(record, _)| names_a_type_twice(&record)) {
             return false;
         }
         rest = &rest[used..];

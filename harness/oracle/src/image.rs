@@ -7,7 +7,7 @@ use crate::layout::Layout;
 use crate::observe::Observed;
 
 /// What a fresh image weighs, and the least capacity.
-pub const FIXED_ROOM: usize = 128;
+pub const FIXED_ROOM: usize = 144;
 pub const MOST_CAPACITY: usize = 65_536;
 
 /// What the contents weigh.
@@ -42,6 +42,7 @@ pub fn layout(observed: &Observed) -> Layout {
     Layout {
         epoch: observed.epoch,
         kraft: observed.kraft,
+        offset: observed.offset,
         entries: stored.chain(groups(observed)).collect(),
     }
 }

@@ -16,5 +16,6 @@ pub mod names;
 pub mod observe;
 pub mod order;
 pub mod replay;
+pub mod snapshot;
 pub mod stored;
 pub mod verdict;

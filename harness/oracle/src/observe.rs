@@ -4,6 +4,7 @@ use std::collections::{BTreeMap, BTreeSet};
 
 use krabka_metadata::{EntityKey, MetadataImage, MetadataRecord, NodeId, PartitionRecord};
 use uuid::Uuid;
+use wire::NO_RECORD;
 
 use crate::order;
 
@@ -22,6 +23,9 @@ pub struct Observed {
     pub empty_quotas: BTreeSet<EntityKey>,
     pub epoch: i64,
     pub kraft: u16,
+    /// The log offset of the last record applied. The reference has none, so it
+    /// is kept beside its image.
+    pub offset: i64,
     /// How many partitions have an ISR smaller than the number of their
     /// replicas that are not being added.
     pub short: usize,
@@ -35,6 +39,7 @@ impl PartialEq for Observed {
             && self.empty_quotas == other.empty_quotas
             && self.epoch == other.epoch
             && self.kraft == other.kraft
+            && self.offset == other.offset
             && self.short == other.short
     }
 }
@@ -70,8 +75,15 @@ impl Witness {
     }
 }
 
-/// The contents of `image`. The witness has seen every record that was
-/// applied to it.
+impl Observed {
+    /// The same contents at a log offset.
+    pub fn at(self, offset: i64) -> Self {
+        Self { offset, ..self }
+    }
+}
+
+/// The contents of `image`, at the log offset of a fresh one. The witness has
+/// seen every record that was applied to it.
 pub fn observe(image: &MetadataImage, witness: &Witness) -> Observed {
     let mut records = image.to_records();
     order::sort(&mut records);
@@ -82,6 +94,7 @@ pub fn observe(image: &MetadataImage, witness: &Witness) -> Observed {
         empty_quotas: empty_quotas(image),
         epoch: image.finalized_features_epoch(),
         kraft: image.kraft_version(),
+        offset: NO_RECORD,
         short: short(image),
     }
 }

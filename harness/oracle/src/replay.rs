@@ -4,7 +4,8 @@
 //! reference makes of them. Verdicts are the reference's `validate`, images its
 //! contents in the harness's own layout, snapshots its `to_records` in 01's
 //! order, restarts its `from_records`. Read's refusals, 17, 18 and 19 are 01's
-//! rules, which the reference does not have.
+//! rules and the log offset with 21 and 22 is 02's, which the reference does not
+//! have.
 
 mod lines;
 mod plan;
@@ -24,6 +25,7 @@ const FREEZE: u8 = 6;
 const THROTTLE: u8 = 7;
 const DOWNGRADE: u8 = 8;
 const PARTITION: u8 = 9;
+const LOG_OFFSET: u8 = 10;
 
 const HISTORIES: u64 = 72;
 

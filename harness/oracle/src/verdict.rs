@@ -11,6 +11,10 @@ pub const NO_IMAGE: u8 = 1;
 pub const NO_OFFSET: u8 = 17;
 /// The weight afterwards exceeds the capacity.
 pub const NO_ROOM: u8 = 18;
+/// The log offset given is not above the stored one.
+pub const NOT_LATER: u8 = 21;
+/// The log offset's record is missing at a snapshot's start, or stands later.
+pub const MISPLACED_OFFSET: u8 = 22;
 /// A topic's name is unlawful.
 pub const UNLAWFUL_NAME: u8 = 24;
 

@@ -5,10 +5,10 @@ use oracle::cases::cases;
 use oracle::exact::is_image;
 use oracle::generate::{Generator, Knobs};
 use oracle::image::{MOST_CAPACITY, image, layout, weight};
-use oracle::layout::HEAD_SIZE;
+use oracle::layout::{HEAD_SIZE, OFFSET};
 use oracle::observe::{Observed, Witness, observe};
 use uuid::Uuid;
-use wire::{HEADER, decode, encode};
+use wire::{HEADER, NO_RECORD, decode, encode};
 
 const HISTORIES: u64 = 200;
 const STEPS: usize = 60;
@@ -88,8 +88,8 @@ fn moved_and_repeated_entries_are_refused() {
     }
 }
 
-/// Of an image with one byte changed: the header's numbers may be any, its
-/// other bytes and the zeros are fixed, and entries that are still accepted
+/// Of an image with one byte changed: the header's numbers may be any, but for a
+/// log offset below -1, its other bytes and the zeros are fixed, and entries that are still accepted
 /// are the bytes of their records.
 #[test]
 fn one_byte_changed() {
@@ -105,6 +105,9 @@ fn one_byte_changed() {
                 let accepted = is_image(&changed);
                 match at {
                     16..26 => assert!(accepted, "seed {seed}: byte {at}"),
+                    _ if OFFSET.contains(&at) => {
+                        assert_eq!(accepted, offset(&changed) >= NO_RECORD, "{seed}: {at}");
+                    }
                     _ if at < HEAD_SIZE || at >= used => assert!(!accepted, "{seed}: byte {at}"),
                     _ if accepted => assert_records(&changed[HEAD_SIZE..used]),
                     _ => {}
@@ -114,6 +117,10 @@ fn one_byte_changed() {
         }
     }
     assert!(kept > 100 && lost > 1_000, "{kept} kept, {lost} lost");
+}
+
+fn offset(image: &[u8]) -> i64 {
+    i64::from_be_bytes(image[OFFSET].try_into().expect("eight bytes"))
 }
 
 /// Each entry but a topic's is what its decoded record is encoded to.

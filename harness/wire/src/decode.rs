@@ -6,13 +6,13 @@ use krabka_metadata::*;
 use uuid::Uuid;
 
 use crate::choices::*;
-use crate::read::{HEADER, read};
+use crate::read::{HEADER, read_logged};
 use crate::run::Run;
 
-/// Reads the record at the start of `input`: its value and the bytes that it
-/// takes, or `read`'s refusal.
+/// Reads the log's record at the start of `input`: its value and the bytes that
+/// it takes, or `read_logged`'s refusal.
 pub fn decode(input: &[u8]) -> Result<(MetadataRecord, usize), u8> {
-    let used = read(input)?;
+    let used = read_logged(input)?;
     let fields = &mut Fields::new(&input[HEADER..used]);
     Ok((record(input[0], fields), used))
 }
@@ -45,7 +45,7 @@ fn record(kind: u8, fields: &mut Fields) -> MetadataRecord {
         23 => V1PartitionUpdate(partition_update(fields)),
         24 => V1BrokerRegistrationChange(broker_registration_change(fields)),
         25 => V1UnregisterController(unregister_controller(fields)),
-        _ => unreachable!("read accepts the kinds 1 to 25"),
+        _ => unreachable!("read_logged accepts the kinds 1 to 25"),
     }
 }
 

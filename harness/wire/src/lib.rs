@@ -6,6 +6,7 @@ mod damage;
 mod decode;
 mod encode;
 mod hex;
+mod offset;
 mod random;
 mod read;
 mod run;
@@ -16,7 +17,10 @@ pub use damage::damaged;
 pub use decode::decode;
 pub use encode::{encode, encoded, encoded_all, field};
 pub use hex::hex;
+pub use offset::{LOG_OFFSET, NO_RECORD, encoded_offset};
 pub use random::Random;
-pub use read::{HEADER, OVER_A_LIMIT, PAST_THE_END, REPEATED, UNKNOWN_KIND, WRONG_FIELD, read};
+pub use read::{
+    HEADER, OVER_A_LIMIT, PAST_THE_END, REPEATED, UNKNOWN_KIND, WRONG_FIELD, read, read_logged,
+};
 pub use run::Run;
 pub use write::{Lists, TOO_SHORT, write};

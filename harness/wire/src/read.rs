@@ -1,11 +1,12 @@
 //! Read: whether bytes begin with a record, and where it ends.
 
+use crate::offset::{LOG_OFFSET, is_offset};
 use crate::run::Run;
 use crate::table::{Form, Presence, Row, shape};
 
 /// The header or the body runs past the input.
 pub const PAST_THE_END: u8 = 2;
-/// The kind is outside 1 to 25.
+/// The kind is outside 1 to 26; of a record of the log, outside 1 to 25.
 pub const UNKNOWN_KIND: u8 = 3;
 /// A field's tag, length or value is wrong, or a field is missing.
 pub const WRONG_FIELD: u8 = 4;
@@ -21,12 +22,27 @@ pub const HEADER: usize = 3;
 /// Reads the record at the start of `input`: the bytes that it takes, or the
 /// refusal's number. Bytes after the record are not looked at.
 pub fn read(input: &[u8]) -> Result<usize, u8> {
+    let (kind, body) = framed(input)?;
+    let shape = shape(kind).ok_or(UNKNOWN_KIND)?;
+    check_run(shape.rows, body, None)?;
+    Ok(HEADER + body.len())
+}
+
+/// As `read`, of a record of the log, which Validate and Apply are given: a log
+/// offset is none, whatever its body is.
+pub fn read_logged(input: &[u8]) -> Result<usize, u8> {
+    match framed(input)? {
+        (LOG_OFFSET, _) => Err(UNKNOWN_KIND),
+        _ => read(input),
+    }
+}
+
+/// The kind and the body that the input begins with.
+fn framed(input: &[u8]) -> Result<(u8, &[u8]), u8> {
     let (&[kind, high, low], rest) = input.split_first_chunk().ok_or(PAST_THE_END)?;
     let length = usize::from(u16::from_be_bytes([high, low]));
     let body = rest.get(..length).ok_or(PAST_THE_END)?;
-    let shape = shape(kind).ok_or(UNKNOWN_KIND)?;
-    check_run(shape.rows, body, None)?;
-    Ok(HEADER + length)
+    Ok((kind, body))
 }
 
 /// Checks the fields of a run in byte order. `key_before` is the key of the
@@ -58,6 +74,7 @@ pub(crate) fn check_run<'a>(
             Nodes => check_list(value, 8, row.size)?,
             NodeSet => check_set(value, row.size)?,
             Ids => check_list(value, 16, row.size)?,
+            Offset => well_formed(is_offset(value))?,
             Nested(shape) => element_key = check_run(shape.rows, value, element_key)?,
         }
         count += 1;

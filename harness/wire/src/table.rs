@@ -23,6 +23,8 @@ pub enum Form {
     /// Nodes, none of which comes twice.
     NodeSet,
     Ids,
+    /// A log offset: an i64 that is not below -1.
+    Offset,
     /// A run of fields by a shape of its own.
     Nested(&'static Shape),
 }
@@ -41,9 +43,9 @@ pub struct Row {
     pub tag: u8,
     pub name: &'static str,
     pub form: Form,
-    /// Of a number or id its bytes, of a bool or enum the number of its values,
-    /// of a string, key or bytes the most bytes, of nodes and ids the most
-    /// elements, of a nested run 0.
+    /// Of a number, id or offset its bytes, of a bool or enum the number of its
+    /// values, of a string, key or bytes the most bytes, of nodes and ids the
+    /// most elements, of a nested run 0.
     pub size: usize,
     pub presence: Presence,
 }
@@ -60,8 +62,8 @@ pub fn shape(kind: u8) -> Option<&'static Shape> {
     KINDS.get(usize::from(kind).checked_sub(1)?)
 }
 
-/// The shapes of the kinds 1 to 25.
-pub static KINDS: [Shape; 25] = [
+/// The shapes of the kinds 1 to 26. The last is none of the log's records.
+pub static KINDS: [Shape; 26] = [
     TOPIC,
     PARTITION,
     BROKER_REGISTRATION,
@@ -87,6 +89,7 @@ pub static KINDS: [Shape; 25] = [
     PARTITION_UPDATE,
     BROKER_REGISTRATION_CHANGE,
     UNREGISTER_CONTROLLER,
+    LOG_OFFSET,
 ];
 
 /// The shapes of the elements of compound lists and maps.
@@ -338,6 +341,11 @@ const BROKER_REGISTRATION_CHANGE: Shape = Shape {
 const UNREGISTER_CONTROLLER: Shape = Shape {
     name: "UnregisterController",
     rows: &[row(1, "node_id", U64, 8, Required)],
+};
+
+const LOG_OFFSET: Shape = Shape {
+    name: "LogOffset",
+    rows: &[row(1, "offset", Offset, 8, Required)],
 };
 
 const ENDPOINT: Shape = Shape {

@@ -45,7 +45,7 @@ returns : tie.Need-returns
 returns c =
     let at-try-in = c .before .before .before .before .before .before in
     let start = at-try-in .before .before .before .before .before .before .before in
-    laid-refused (start .args .image .now) _ _ (ap (outcome (at-try-in .try-in .last .0)) (sym (c .before .number .given .1)) ∙ at-try-in .try-in .ensures .0)
+    laid-refused (start .args .image .now) _ _ _ (ap (outcome (at-try-in .try-in .last .0)) (sym (c .before .number .given .1)) ∙ at-try-in .try-in .ensures .0)
 
 same-length-2 : tie.Need-same-length-2
 same-length-2 c = search needs
@@ -55,7 +55,7 @@ returns-2 c =
     let at-s = c .before .before .before .before .before .before in
     let at-try-in = at-s .before .before .before .before .before in
     let start = at-try-in .before .before .before .before .before .before .before in
-    laid-moved (start .args .image .now) _ _ (ap (outcome (at-try-in .try-in .last .0)) (sym (at-s .s .given .1)) ∙ at-try-in .try-in .ensures .0) (c .before .before .lay .ensures)
+    laid-moved (start .args .image .now) _ _ _ (ap (outcome (at-try-in .try-in .last .0)) (sym (at-s .s .given .1)) ∙ at-try-in .try-in .ensures .0) (c .before .before .lay .ensures)
 
 pub apply-record-spec : {M : Type 1} → statement M
 apply-record-spec =

@@ -11,8 +11,8 @@ use Rattle.apply_offsets.proofs.draft.Tie as tie
 slice-aggregate-put : tie.Need-slice-aggregate-put
 slice-aggregate-put c = search needs
 
-turned-requires : tie.Need-turned-requires
-turned-requires c κs = search needs
+place-requires : tie.Need-place-requires
+place-requires c κs = search needs
 
 put-requires : tie.Need-put-requires
 put-requires c κs = search needs
@@ -43,10 +43,10 @@ returns c =
     let at-set-field = c .before .before in
     let at-copy-in = at-set-field .before .before .before .before .before in
     let at-put = at-copy-in .before .before .before in
-    let at-turned = at-put .before in
-    let start = at-turned .before .before .before .before in (
+    let at-place = at-put .before in
+    let start = at-place .before .before .before .before in (
       offset-drafted _ (start .pre .0) (start .pre .1) (at-copy-in .copy-in .last .0) (at-copy-in .copy-in .result) (at-copy-in .copy-in .ensures .1) (start .args .offset)
-          (at-put .put .ensures ∙ ap (bytes 8) (at-turned .turned .ensures)) (at-set-field .set-field .ensures .0),
+          (at-put .put .ensures ∙ ap (bytes 8) (at-place .place .ensures)) (at-set-field .set-field .ensures .0),
       omega (arith, at-set-field .set-field .ensures .1, record-size _ (start .pre .0), at-copy-in .copy-in .ensures .0, at-put .put .kept .0),
     )
 
@@ -55,7 +55,7 @@ draft-spec =
     tie.close
     (tie.spec
     slice-aggregate-put
-    turned-requires
+    place-requires
     put-requires
     copy-in-requires
     slice-aggregate-set-field

@@ -25,15 +25,23 @@ kraft-in-requires c κs =
     let start = known .before .before .before .before in
     image-long _ (known-bytes (start .args .image .now) (λ i. omega (arith, known .shared-slice-known .given i))) (start .pre .0) .0
 
+offset-in-requires : tie.Need-offset-in-requires
+offset-in-requires c κs =
+    let known = c .before .before .before .before .before .before .before in
+    let start = known .before .before .before .before in
+    image-long _ (known-bytes (start .args .image .now) (λ i. omega (arith, known .shared-slice-known .given i))) (start .pre .0) .0
+
 step-requires : tie.Need-step-requires
 step-requires c κs =
-    let at-kraft-in = c .before .before .before in
+    let at-offset-in = c .before .before .before in
+    let at-kraft-in = at-offset-in .before in
     let at-epoch-in = at-kraft-in .before in
     let at-load = at-epoch-in .before .before .before in
     let known = at-load .before .before .before in
     let start = known .before .before .before .before in (
-      holding-loaded (start .args .image .now) (known-bytes (start .args .image .now) (λ i. omega (arith, known .shared-slice-known .given i))) (start .pre .0) _ _ _ _
-          (at-load .load .ensures) (at-epoch-in .epoch-in .ensures) (at-kraft-in .kraft-in .ensures),
+      holding-loaded (start .args .image .now) (known-bytes (start .args .image .now) (λ i. omega (arith, known .shared-slice-known .given i))) (start .pre .0) _ _ _ _ _
+          (at-load .load .ensures) (at-epoch-in .epoch-in .ensures) (at-kraft-in .kraft-in .ensures)
+          (at-offset-in .offset-in .ensures),
       start .pre .1,
       omega (arith, start .pre .2, at-load .load .kept .0),
       start .pre .3,
@@ -52,13 +60,15 @@ same-length-3 c = search needs
 returns : tie.Need-returns
 returns c =
     let at-step = c .before .before .before .before .before .before in
-    let at-kraft-in = at-step .before .before .before .before in
+    let at-offset-in = at-step .before .before .before .before in
+    let at-kraft-in = at-offset-in .before in
     let at-epoch-in = at-kraft-in .before in
     let at-load = at-epoch-in .before .before .before in
     let known = at-load .before .before .before in
     let start = known .before .before .before .before in (
       at-step .step .ensures .0 ∙ ap (apply _ _)
-          (state-loaded (start .args .image .now) (known-bytes (start .args .image .now) (λ i. omega (arith, known .shared-slice-known .given i))) (start .pre .0) _ _ _ _ (at-load .load .ensures) (at-epoch-in .epoch-in .ensures) (at-kraft-in .kraft-in .ensures)),
+          (state-loaded (start .args .image .now) (known-bytes (start .args .image .now) (λ i. omega (arith, known .shared-slice-known .given i))) (start .pre .0) _ _ _ _ _ (at-load .load .ensures) (at-epoch-in .epoch-in .ensures) (at-kraft-in .kraft-in .ensures)
+          (at-offset-in .offset-in .ensures)),
       at-step .step .ensures .1,
     )
 
@@ -69,6 +79,7 @@ try-in-spec =
     load-requires
     epoch-in-requires
     kraft-in-requires
+    offset-in-requires
     step-requires
     same-length
     same-length-2

@@ -2,7 +2,7 @@
 use borrow.Author.Needs.{needs}
 use native.Mathlib.Omega.{arith}
 use Rattle.keys.proofs.Keys.{known-bytes}
-use Rattle.header.proofs.Fronts.{bad-front, bad-low, bad-high, rest-zero}
+use Rattle.header.proofs.Fronts.{bad-front, bad-low, bad-high, bad-rest, last-offset}
 use Rattle.header.proofs.header_ok.Statement.{statement}
 use Rattle.header.proofs.header_ok.Tie as tie
 
@@ -47,15 +47,39 @@ is-clear-requires c κs = search needs
 
 returns-4 : tie.Need-returns-4
 returns-4 c =
-    let at-if2 = c .before .before .before in
+    let at-is-clear = c .before in
+    let at-if3 = at-is-clear .before .before in
+    let at-if2 = at-if3 .before in
     let at-used-in = at-if2 .before in
     let at-if1 = at-used-in .before in
     let at-front-ok = at-if1 .before in
     let known = at-front-ok .before in
     let s = known .before in
     let areBytes = known-bytes (s .args .b .now) (λ i. omega (arith, known .shared-slice-known .given i)) in
-    rest-zero (s .args .b .now) areBytes (s .pre) (at-front-ok .front-ok .ensures) (at-if1 .if1 .left) (at-used-in .used-in .ensures .0) (at-if2 .if2 .left)
-    (c .before .before .if3 .left) (c .is-clear .ensures)
+    bad-rest (s .args .b .now) areBytes (s .pre) (at-front-ok .front-ok .ensures) (at-if1 .if1 .left) (at-used-in .used-in .ensures .0) (at-if2 .if2 .left)
+    (at-if3 .if3 .left) (at-is-clear .is-clear .ensures) (c .if4 .taken)
+
+offset-in-requires : tie.Need-offset-in-requires
+offset-in-requires c κs = search needs
+
+is-offset-requires : tie.Need-is-offset-requires
+is-offset-requires c κs = search needs
+
+returns-5 : tie.Need-returns-5
+returns-5 c =
+    let at-offset-in = c .before in
+    let at-if4 = at-offset-in .before in
+    let at-is-clear = at-if4 .before in
+    let at-if3 = at-is-clear .before .before in
+    let at-if2 = at-if3 .before in
+    let at-used-in = at-if2 .before in
+    let at-if1 = at-used-in .before in
+    let at-front-ok = at-if1 .before in
+    let known = at-front-ok .before in
+    let s = known .before in
+    let areBytes = known-bytes (s .args .b .now) (λ i. omega (arith, known .shared-slice-known .given i)) in
+    last-offset (s .args .b .now) areBytes (s .pre) (at-front-ok .front-ok .ensures) (at-if1 .if1 .left) (at-used-in .used-in .ensures .0) (at-if2 .if2 .left)
+    (at-if3 .if3 .left) (at-is-clear .is-clear .ensures) (at-if4 .if4 .left) (at-offset-in .offset-in .ensures) (c .is-offset .ensures)
 
 pub header-ok-spec : {M : Type 1} → statement M
 header-ok-spec =
@@ -70,4 +94,7 @@ header-ok-spec =
     part-is-clear-start
     part-is-clear-end
     is-clear-requires
-    returns-4)
+    returns-4
+    offset-in-requires
+    is-offset-requires
+    returns-5)

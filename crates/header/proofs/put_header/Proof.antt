@@ -1,4 +1,4 @@
--- `header::put_header` meets its contract: six parts, one after another.
+-- `header::put_header` meets its contract: seven parts, one after another.
 use borrow.Author.Needs.{needs}
 use Rattle.model.specs.Image.{mark}
 use Rattle.header.proofs.Writes.{header-written}
@@ -26,13 +26,17 @@ put-requires-4 c κs = search needs
 put-requires-5 : tie.Need-put-requires-5
 put-requires-5 c κs = search needs
 
+put-requires-6 : tie.Need-put-requires-6
+put-requires-6 c κs = search needs
+
 same-length : tie.Need-same-length
 same-length c = search needs
 
 returns : tie.Need-returns
 unfolding mark
 returns c =
-    let at-put4 = c .before .before .before .before .before .before in
+    let at-put5 = c .before .before .before .before .before .before in
+    let at-put4 = at-put5 .before .before .before .before in
     let at-put3 = at-put4 .before .before .before .before in
     let at-put2 = at-put3 .before .before .before .before in
     let at-put = at-put2 .before .before .before .before in
@@ -43,9 +47,10 @@ returns c =
     let gap = at-put2 .put2 in
     let epoch = at-put3 .put3 in
     let kraft = at-put4 .put4 in
-    let end = c .before .before .put5 in
-    header-written (start .args .b .now) (l .last .0) (used .last .0) (gap .last .0) (epoch .last .0) (kraft .last .0) (end .last .0) _ _ _ (l .ensures) (used .ensures)
-    (gap .ensures) (epoch .ensures) (kraft .ensures) (end .ensures)
+    let rest = at-put5 .put5 in
+    let offset = c .before .before .put6 in
+    header-written (start .args .b .now) (l .last .0) (used .last .0) (gap .last .0) (epoch .last .0) (kraft .last .0) (rest .last .0) (offset .last .0) _ _ _ _ (l .ensures)
+    (used .ensures) (gap .ensures) (epoch .ensures) (kraft .ensures) (rest .ensures) (offset .ensures)
 
 pub put-header-spec : {M : Type 1} → statement M
 put-header-spec =
@@ -58,5 +63,6 @@ put-header-spec =
     put-requires-3
     put-requires-4
     put-requires-5
+    put-requires-6
     same-length
     returns)

@@ -1,5 +1,5 @@
 -- `records::fields_fault` meets its contract: the base of the kind's number has the kind's rows.
-use mathlib.Core.Path.{_∙_}
+use mathlib.Core.Path.{refl, _∙_}
 use borrow.Author.Needs.{needs}
 use Rattle.records.proofs.Bases.{kind-fault, record-base}
 use Rattle.records.proofs.fields_fault.Statement.{statement}
@@ -14,15 +14,15 @@ slice-aggregate-given-faults c = search needs
 kind-number-requires : tie.Need-kind-number-requires
 kind-number-requires c κs = search needs
 
-base-of-requires : tie.Need-base-of-requires
-base-of-requires c κs = search needs
+framed-base-of-requires : tie.Need-framed-base-of-requires
+framed-base-of-requires c κs = search needs
 
 given-faults-requires : tie.Need-given-faults-requires
 given-faults-requires c κs =
-    (c .before .before .before .all-rows .ensures, record { shape = _; at = record-base _ (c .before .kind-number .ensures) (c .base-of .ensures) })
+    (c .before .before .before .all-rows .ensures, record { shape = _; at = record-base _ (c .before .kind-number .ensures) (c .framed-base-of .ensures) })
 
 returns : tie.Need-returns
-returns c = c .given-faults .ensures ∙ kind-fault _ _ (record-base _ (c .before .before .kind-number .ensures) (c .before .base-of .ensures)) _
+returns c = c .given-faults .ensures ∙ kind-fault _ _ refl (record-base _ (c .before .before .kind-number .ensures) (c .before .framed-base-of .ensures)) _
 
 pub fields-fault-spec : {M : Type 1} → statement M
 fields-fault-spec =
@@ -31,6 +31,6 @@ fields-fault-spec =
     all-rows-requires
     slice-aggregate-given-faults
     kind-number-requires
-    base-of-requires
+    framed-base-of-requires
     given-faults-requires
     returns)

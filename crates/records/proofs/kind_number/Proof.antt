@@ -79,6 +79,9 @@ enum-told-24 c = search needs
 enum-told-25 : tie.Need-enum-told-25
 enum-told-25 c = search needs
 
+enum-told-26 : tie.Need-enum-told-26
+enum-told-26 c = search needs
+
 returns : tie.Need-returns
 unfolding kindNumber
 returns c = rw (c .enum-told .given .1)
@@ -179,6 +182,10 @@ returns-25 : tie.Need-returns-25
 unfolding kindNumber
 returns-25 c = rw (c .enum-told25 .given .1)
 
+returns-26 : tie.Need-returns-26
+unfolding kindNumber
+returns-26 c = rw (c .enum-told26 .given .1)
+
 pub kind-number-spec : {M : Type 1} → statement M
 kind-number-spec =
     tie.close
@@ -208,6 +215,7 @@ kind-number-spec =
     enum-told-23
     enum-told-24
     enum-told-25
+    enum-told-26
     returns
     returns-2
     returns-3
@@ -232,4 +240,5 @@ kind-number-spec =
     returns-22
     returns-23
     returns-24
-    returns-25)
+    returns-25
+    returns-26)

@@ -1,4 +1,4 @@
--- `records::read` meets its contract: it reads from the log.
+-- `records::read` meets its contract: what is read by itself has no repeat.
 use borrow.Author.Needs.{needs}
 use Rattle.model.specs.Record.{readOf}
 use Rattle.records.proofs.Replies.{accepted-apart}

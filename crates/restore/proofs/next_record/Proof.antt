@@ -1,20 +1,22 @@
--- `restore::next_record` meets its contract: what Read and the step over the record's bytes say.
+-- `restore::next_record` meets its contract: what Read behind the log offset and the step over the record's bytes say.
 use borrow.Author.Needs.{needs}
-use mathlib.Core.Path.{_≡_, sym, ap, _∙_}
+use mathlib.Core.Path.{_≡_, subst}
 use mathlib.Core.List.{[], _∷_}
 use native.Mathlib.Omega.{arith}
 use Rattle.model.specs.Number.{AreBytes}
-use Rattle.model.specs.Record.{readOf}
+use Rattle.model.specs.Shape.{logged}
+use Rattle.model.specs.Record.{read}
 use Rattle.model.specs.Reply.{accepted}
 use Rattle.keys.proofs.Keys.{known-bytes}
-use Rattle.model.specs.Answers.{replied}
+use Rattle.records.specs.Answers.{gotReply}
 use Rattle.find.proofs.Logged.{record-length, record-logged}
+use Rattle.restore.specs.Restore.{InsideAs}
 use Rattle.restore.proofs.Restoring.{next-unread, next-refused, next-moved}
 use Rattle.restore.proofs.next_record.Statement.{statement}
 use Rattle.restore.proofs.next_record.Tie as tie
 
-read-requires : tie.Need-read-requires
-read-requires c κs = search needs
+read-inside-requires : tie.Need-read-inside-requires
+read-inside-requires c κs = search needs
 
 enum-known-number : tie.Need-enum-known-number
 enum-known-number c = search needs
@@ -27,8 +29,8 @@ bytes-in : (c : tie.After-shared-slice-known) → AreBytes (c .before .before .b
 bytes-in c = known-bytes (c .before .before .before .before .args .input .now) (λ i. omega (arith, c .shared-slice-known .given i))
 
 -- Read accepts as many bytes as the record has
-used : (c : tie.After-n) → accepted (c .n .given .0 .0 ∷ []) ≡ readOf (c .before .before .before .before .before .before .before .args .input .now)
-used c = ap replied (sym (c .n .given .1)) ∙ c .before .before .read .ensures .0
+used : (c : tie.After-n) → accepted (c .n .given .0 .0 ∷ []) ≡ gotReply (read logged (c .before .before .before .before .before .before .before .args .input .now))
+used c = subst (InsideAs (c .before .before .before .before .before .before .before .args .input .now)) (c .n .given .1) (c .before .before .read-inside .ensures)
 
 slice-aggregate-step : tie.Need-slice-aggregate-step
 slice-aggregate-step c =
@@ -48,9 +50,9 @@ enum-known-s c = search needs
 
 returns : tie.Need-returns
 returns c =
-    let at-read = c .before .before .before in
-    let start = at-read .before .before .before .before .before in
-    let a = start .args in next-unread (a .w .now) (a .state) (a .capacity) (a .input .now) (ap replied (sym (c .before .number .given .1)) ∙ at-read .read .ensures .0)
+    let at-read-inside = c .before .before .before in
+    let start = at-read-inside .before .before .before .before .before in
+    let a = start .args in next-unread (a .w .now) (a .state) (a .capacity) (a .input .now) (subst (InsideAs (a .input .now)) (c .before .number .given .1) (at-read-inside .read-inside .ensures))
 
 same-length : tie.Need-same-length
 same-length c = search needs
@@ -88,7 +90,7 @@ pub next-record-spec : {M : Type 1} → statement M
 next-record-spec =
     tie.close
     (tie.spec
-    read-requires
+    read-inside-requires
     enum-known-number
     enum-known-n
     slice-aggregate-step

@@ -68,6 +68,18 @@ part-set-fault-end c = search needs
 set-fault-requires : tie.Need-set-fault-requires
 set-fault-requires c κs = search needs
 
+sub-offset-fault : tie.Need-sub-offset-fault
+sub-offset-fault c = search needs
+
+part-offset-fault-start : tie.Need-part-offset-fault-start
+part-offset-fault-start c = search needs
+
+part-offset-fault-end : tie.Need-part-offset-fault-end
+part-offset-fault-end c = search needs
+
+offset-fault-requires : tie.Need-offset-fault-requires
+offset-fault-requires c κs = search needs
+
 returns : tie.Need-returns
 unfolding leafFault formOf
 returns c =
@@ -125,8 +137,15 @@ returns-9 c =
 returns-10 : tie.Need-returns-10
 unfolding leafFault formOf
 returns-10 c =
+    let b = c .before .before .before .before in
+    rw (c .before .before .match .keys9, ← part-slice (b .args .s .now) (b .args .from) (b .args .to) (b .pre .1) (b .pre .2)) (c .offset-fault .ensures)
+
+returns-11 : tie.Need-returns-11
+unfolding leafFault formOf
+returns-11 c =
     let past = c .match .rest in
     rw (
+      ne-eqb _ _ (past .0 .0 .0 .0 .0 .0 .0 .0 .1),
       ne-eqb _ _ (past .0 .0 .0 .0 .0 .0 .0 .1),
       ne-eqb _ _ (past .0 .0 .0 .0 .0 .0 .1),
       ne-eqb _ _ (past .0 .0 .0 .0 .0 .1),
@@ -161,6 +180,10 @@ leaf-fault-spec =
     part-set-fault-start
     part-set-fault-end
     set-fault-requires
+    sub-offset-fault
+    part-offset-fault-start
+    part-offset-fault-end
+    offset-fault-requires
     returns
     returns-2
     returns-3
@@ -170,4 +193,5 @@ leaf-fault-spec =
     returns-7
     returns-8
     returns-9
-    returns-10)
+    returns-10
+    returns-11)

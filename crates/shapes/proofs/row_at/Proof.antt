@@ -1,4 +1,4 @@
--- `shapes::row_at` meets its contract: the lent rows are the table, which has 149.
+-- `shapes::row_at` meets its contract: the lent rows are the table, which has 151.
 use borrow.Author.Needs.{needs}
 use mathlib.Core.Path.{_≡_, refl, ap}
 use lib.ListN.{length, getD}

@@ -33,14 +33,17 @@ returned-length-requires c κs =
     let start = c .before .before .before in
     (lent-entries (start .args .image .now) (start .pre), lent-kept (start .args .image .now) (start .pre))
 
+add-result : tie.Need-add-result
+add-result c = search needs
+
 epoch-in-requires : tie.Need-epoch-in-requires
 epoch-in-requires c κs = search needs
 
 epoch-length-requires : tie.Need-epoch-length-requires
 epoch-length-requires c κs = search needs
 
-add-result : tie.Need-add-result
-add-result c = search needs
+add-result-2 : tie.Need-add-result-2
+add-result-2 c = search needs
 
 kraft-in-requires : tie.Need-kraft-in-requires
 kraft-in-requires c κs = search needs
@@ -48,8 +51,8 @@ kraft-in-requires c κs = search needs
 kraft-length-requires : tie.Need-kraft-length-requires
 kraft-length-requires c κs = search needs
 
-add-result-2 : tie.Need-add-result-2
-add-result-2 c = search needs
+add-result-3 : tie.Need-add-result-3
+add-result-3 c = search needs
 
 returns-2 : tie.Need-returns-2
 returns-2 c =
@@ -72,10 +75,11 @@ is-too-short-spec =
     part-returned-length-start
     part-returned-length-end
     returned-length-requires
+    add-result
     epoch-in-requires
     epoch-length-requires
-    add-result
+    add-result-2
     kraft-in-requires
     kraft-length-requires
-    add-result-2
+    add-result-3
     returns-2)

@@ -13,15 +13,15 @@ use Rattle.snapshot.proofs.put_entries.Statement.{statement}
 use Rattle.snapshot.proofs.put_entries.Tie as tie
 
 abbrev Inv-loop : tie.InvT-loop
-Inv-loop out₀ s c₀ total₀ out c total = Wrote s out₀ out (c .at) total
+Inv-loop out₀ offset s c₀ total₀ out c total = Wrote s out₀ out (c .at) total
 
 abbrev μ-loop : tie.MeasureT-loop
-μ-loop out₀ s c₀ total₀ out c total = length s - c .at
+μ-loop out₀ offset s c₀ total₀ out c total = length s - c .at
 
 loop-holds : tie.Need-loop-holds Inv-loop μ-loop
 loop-holds c =
     let start = c .before .before in
-    write-start _ _ (start .pre .0) (start .pre .1) (start .pre .2)
+    write-start _ _ (start .pre .0) (start .pre .1) (start .pre .2) (start .pre .3)
 
 next-requires : tie.Need-next-requires Inv-loop μ-loop
 next-requires c κs = search needs
@@ -81,7 +81,8 @@ returns-2 : tie.Need-returns-2 Inv-loop μ-loop
 returns-2 c =
     let at-next = c .before .before in
     let at-loop = at-next .before in
-    wrote (at-loop .loop .inv) (ended _ (bytes-in at-next) _ (at-loop .loop .inv .ahead .entries) (at-next .next .ensures) (c .enum-told2 .given .1))
+    let start = at-loop .before .before .before in
+    rw (start .pre .2) (wrote (at-loop .loop .inv) (ended _ (bytes-in at-next) _ (at-loop .loop .inv .ahead .entries) (at-next .next .ensures) (c .enum-told2 .given .1)))
 
 pub put-entries-spec : {M : Type 1} → statement M
 put-entries-spec =

@@ -18,8 +18,8 @@ returns c =
     let start = c .before .before .before .before in
     no-image (start .args .image .now) (start .args .input .now) (c .before .is-image .ensures) (c .if1 .taken)
 
-read-requires : tie.Need-read-requires
-read-requires c κs = search needs
+read-logged-requires : tie.Need-read-logged-requires
+read-logged-requires c κs = search needs
 
 enum-known-number : tie.Need-enum-known-number
 enum-known-number c = search needs
@@ -46,44 +46,44 @@ part-judge-end c = search needs
 slice-aggregate-judge : tie.Need-slice-aggregate-judge
 slice-aggregate-judge c =
     let at-n = c .before .before .before .before in
-    let at-read = at-n .before .before in
-    let at-shared-slice-known2 = at-read .before .before .before in
+    let at-read-logged = at-n .before .before in
+    let at-shared-slice-known2 = at-read-logged .before .before .before in
     let start = at-shared-slice-known2 .before .before in
     record-length (start .args .input .now) (known-bytes (start .args .input .now) (λ i. omega (arith, at-shared-slice-known2 .shared-slice-known2 .given i)))
-    (ap replied (sym (at-n .n .given .1)) ∙ at-read .read .ensures .0)
+    (ap replied (sym (at-n .n .given .1)) ∙ at-read-logged .read-logged .ensures)
 
 judge-requires : tie.Need-judge-requires
 judge-requires c κs =
     let at-n = c .before .before .before .before in
-    let at-read = at-n .before .before in
-    let at-shared-slice-known2 = at-read .before .before .before in
+    let at-read-logged = at-n .before .before in
+    let at-shared-slice-known2 = at-read-logged .before .before .before in
     let start = at-shared-slice-known2 .before .before in
     let r = c .before .before .reals-end .ensures in (
       lent-entries _ r,
       record-logged (start .args .input .now) (known-bytes (start .args .input .now) (λ i. omega (arith, at-shared-slice-known2 .shared-slice-known2 .given i)))
-          (ap replied (sym (at-n .n .given .1)) ∙ at-read .read .ensures .0),
+          (ap replied (sym (at-n .n .given .1)) ∙ at-read-logged .read-logged .ensures),
     )
 
 returns-2 : tie.Need-returns-2
 returns-2 c =
-    let at-read = c .before .before .before in
-    let at-if1 = at-read .before in
+    let at-read-logged = c .before .before .before in
+    let at-if1 = at-read-logged .before in
     let at-is-image = at-if1 .before in
     let start = at-is-image .before .before .before in
-    read-refused (start .args .image .now) (start .args .input .now) (at-is-image .is-image .ensures) (at-if1 .if1 .left) (ap replied (sym (c .before .number .given .1)) ∙ at-read .read .ensures .0)
+    read-refused (start .args .image .now) (start .args .input .now) (at-is-image .is-image .ensures) (at-if1 .if1 .left) (ap replied (sym (c .before .number .given .1)) ∙ at-read-logged .read-logged .ensures)
 
 returns-3 : tie.Need-returns-3
 returns-3 c =
     let at-reals-end = c .before .before .before in
     let at-n = at-reals-end .before .before in
-    let at-read = at-n .before .before in
-    let at-if1 = at-read .before in
+    let at-read-logged = at-n .before .before in
+    let at-if1 = at-read-logged .before in
     let at-is-image = at-if1 .before in
     let at-shared-slice-known2 = at-is-image .before in
     let start = at-shared-slice-known2 .before .before in
     judged (start .args .image .now) (start .args .input .now) (at-is-image .is-image .ensures) (at-if1 .if1 .left)
     (known-bytes (start .args .input .now) (λ i. omega (arith, at-shared-slice-known2 .shared-slice-known2 .given i)))
-    (ap replied (sym (at-n .n .given .1)) ∙ at-read .read .ensures .0) (at-reals-end .reals-end .ensures) (c .judge .ensures)
+    (ap replied (sym (at-n .n .given .1)) ∙ at-read-logged .read-logged .ensures) (at-reals-end .reals-end .ensures) (c .judge .ensures)
 
 pub validate-spec : {M : Type 1} → statement M
 validate-spec =
@@ -91,7 +91,7 @@ validate-spec =
     (tie.spec
     is-image-requires
     returns
-    read-requires
+    read-logged-requires
     enum-known-number
     enum-known-n
     reals-end-requires

@@ -1,10 +1,11 @@
 //! Open, the exact test, Validate and Apply. Each record is stored already, so
-//! that applying it again leaves the image as it was.
+//! that applying it again leaves the image as it was, but for the log offset.
 
 use std::hint::black_box;
 
 use krabka_metadata::{MetadataImage, MetadataRecord};
 use oracle::facts::build::broker;
+use oracle::layout::OFFSET;
 use oracle::verdict::verdict;
 use uuid::Uuid;
 use wire::encoded;
@@ -76,12 +77,18 @@ fn applied(full: &Full, name: &'static str, record: &MetadataRecord) -> Timed {
     let input = encoded(record);
     let mut bytes = full.bytes.clone();
     let mut image = full.image.clone();
-    assert_eq!(apply(&mut bytes, &input), 0, "{name}");
-    assert!(bytes == full.bytes, "{name} changes the image");
+    let mut offset = full.offset + 1;
+    assert_eq!(apply(&mut bytes, offset, &input), 0, "{name}");
+    let mut expected = full.bytes.clone();
+    expected[OFFSET].copy_from_slice(&offset.to_be_bytes());
+    assert!(bytes == expected, "{name} changes the image");
     Timed::of(
         name,
         "`apply`",
-        || apply(black_box(&mut bytes), black_box(&input)),
+        || {
+            offset += 1;
+            apply(black_box(&mut bytes), offset, black_box(&input))
+        },
         || image.apply(black_box(record)),
     )
 }

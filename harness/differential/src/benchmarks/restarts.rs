@@ -5,6 +5,7 @@ use std::hint::black_box;
 
 use krabka_metadata::{MetadataImage, MetadataRecord};
 use oracle::image::image;
+use oracle::snapshot::{start, starting};
 use oracle::{downgrade, order};
 use uuid::Uuid;
 use wire::{decode, encoded_all};
@@ -16,7 +17,7 @@ use crate::images::{Full, Subject};
 const LEVEL: i16 = 16;
 
 pub fn measure(full: &Full) -> Vec<Timed> {
-    let (capacity, snapshot) = (full.bytes.len(), snapshot(&full.image));
+    let (capacity, snapshot) = (full.bytes.len(), snapshot(full));
     vec![
         taken(full, &snapshot),
         restored(capacity, "Restore", &snapshot),
@@ -36,7 +37,7 @@ fn taken(full: &Full, expected: &[u8]) -> Timed {
         "Snapshot",
         "`to_records`, sorted and encoded",
         || crate::snapshot(black_box(&full.bytes), &mut out),
-        || snapshot(black_box(&full.image)).len(),
+        || snapshot(black_box(full)).len(),
     )
 }
 
@@ -69,19 +70,20 @@ fn listed(full: &Full) -> Timed {
     )
 }
 
-pub fn snapshot(image: &MetadataImage) -> Vec<u8> {
-    let mut records = image.to_records();
+pub fn snapshot(full: &Full) -> Vec<u8> {
+    let mut records = full.image.to_records();
     order::sort(&mut records);
-    encoded_all(&records)
+    starting(full.offset, &encoded_all(&records))
 }
 
 fn rebuilt(input: &[u8]) -> MetadataImage {
-    MetadataImage::from_records(Uuid::nil(), &decoded(input))
+    MetadataImage::from_records(Uuid::nil(), &decoded(input).1)
 }
 
 /// The bytes of the Rust's image of some records.
 fn laid_out(input: &[u8], capacity: usize) -> Option<Vec<u8>> {
-    image(&Subject::of(&decoded(input)).observed, capacity)
+    let (offset, records) = decoded(input);
+    image(&Subject::of(&records).observed.at(offset), capacity)
 }
 
 fn listing(image: &MetadataImage) -> Vec<u8> {
@@ -91,16 +93,19 @@ fn listing(image: &MetadataImage) -> Vec<u8> {
 /// The records from the last to the first: no snapshot has this order, so that
 /// they are restored one by one.
 fn turned(snapshot: &[u8]) -> Vec<u8> {
-    let records: Vec<MetadataRecord> = decoded(snapshot).into_iter().rev().collect();
-    encoded_all(&records)
+    let (offset, mut records) = decoded(snapshot);
+    records.reverse();
+    starting(offset, &encoded_all(&records))
 }
 
-pub fn decoded(mut bytes: &[u8]) -> Vec<MetadataRecord> {
-    let mut records = Vec::new();
-    while !bytes.is_empty() {
-        let (record, used) = decode(bytes).expect("a snapshot's record");
+/// A snapshot's log offset and its records.
+pub fn decoded(snapshot: &[u8]) -> (i64, Vec<MetadataRecord>) {
+    let (offset, first) = start(snapshot).expect("a snapshot's log offset");
+    let (mut rest, mut records) = (&snapshot[first..], Vec::new());
+    while !rest.is_empty() {
+        let (record, used) = decode(rest).expect("a snapshot's record");
         records.push(record);
-        bytes = &bytes[used..];
+        rest = &rest[used..];
     }
-    records
+    (offset, records)
 }

@@ -4,7 +4,8 @@
 use krabka_metadata::{ClientQuotaRecord, MetadataRecord, PartitionRecord, QuotaEntity};
 use oracle::facts::build::{nodes, partition, topic};
 use oracle::image::image;
-use wire::encoded_all;
+use oracle::snapshot::starting;
+use wire::{NO_RECORD, encoded_all};
 
 use super::restarts::{decoded, restored, snapshot};
 use super::rows::Timed;
@@ -16,7 +17,7 @@ const CAPACITY: usize = SIZES[SIZES.len() - 1];
 /// As many topics of two-byte names as the capacity takes.
 const TOPICS: u64 = 1_391;
 /// As many empty quota groups of one entity with a two-byte type.
-const GROUPS: u64 = 4_672;
+const GROUPS: u64 = 4_670;
 /// As many partitions of four replicas, one of them being added, and as many of
 /// 64 replicas and 64 other nodes being added.
 const MOVING: i32 = 695;
@@ -53,8 +54,8 @@ impl Worst {
 }
 
 pub fn measure(full: &Full) -> Vec<Worst> {
-    let moved = last_first(&snapshot(&full.image));
-    let groups = encoded_all(&empty_groups());
+    let moved = last_first(&snapshot(full));
+    let groups = starting(NO_RECORD, &encoded_all(&empty_groups()));
     vec![
         Worst::of(
             "exact test",
@@ -91,7 +92,7 @@ pub fn measure(full: &Full) -> Vec<Worst> {
         ),
         Worst::of(
             "Restore",
-            restored(CAPACITY, "Restore, 4,672 empty quota groups", &groups),
+            restored(CAPACITY, "Restore, 4,670 empty quota groups", &groups),
         ),
         Worst::of(
             "short count",
@@ -183,9 +184,9 @@ fn empty_groups() -> Vec<MetadataRecord> {
 }
 
 fn last_first(snapshot: &[u8]) -> Vec<u8> {
-    let mut records = decoded(snapshot);
+    let (offset, mut records) = decoded(snapshot);
     records.rotate_right(1);
-    encoded_all(&records)
+    starting(offset, &encoded_all(&records))
 }
 
 /// Two characters; those of a greater number come later.

@@ -4,7 +4,7 @@
 
 use std::process::ExitCode;
 
-use differential::histories::{compare_drawn, compare_no_image, compare_short};
+use differential::histories::{compare_drawn, compare_no_image, compare_offsets, compare_short};
 use differential::images::Tally;
 use differential::{Asked, Comparison};
 
@@ -13,19 +13,23 @@ const HISTORIES: Comparison = Comparison {
     drawn: "histories",
     count: 100,
     about: "Compares Validate and Apply of the proved library with the reference along whole\n\
-            histories: all short ones over sets of records that meet at the same keys, then\n\
-            drawn ones, each at four capacities; and on buffers that are no image.",
+            histories: some at named log offsets, all short ones over sets of records that meet\n\
+            at the same keys, then drawn ones, each at four capacities; and on buffers that are\n\
+            no image. One Apply in eight is tried again at log offsets that are not later.",
 };
 
 fn main() -> ExitCode {
     HISTORIES.run(|asked| {
         let (mut short, mut drawn) = (Tally::default(), Tally::default());
+        let mut offsets = Tally::default();
+        compare_offsets(&mut offsets)?;
         compare_no_image(&mut short)?;
         compare_short(&mut short)?;
         asked.each(|seed| compare_drawn(&mut drawn, seed))?;
         let Asked { count, seed } = asked;
         Ok(format!(
-            "all short histories, all equal\n{short}\
+            "named log offsets, all equal\n{offsets}\
+             all short histories, all equal\n{short}\
              {count} histories from seed {seed}, at four capacities each, all equal\n{drawn}"
         ))
     })

@@ -4,7 +4,7 @@
 
 use std::process::ExitCode;
 
-use differential::{Asked, Compared, Comparison, Inputs, replica_lists};
+use differential::{Asked, Compared, Comparison, Inputs, log_offsets, replica_lists};
 use wire::Lists;
 
 const RECORDS: Comparison = Comparison {
@@ -12,8 +12,8 @@ const RECORDS: Comparison = Comparison {
     drawn: "inputs",
     count: 1_000_000,
     about: "Compares Read and Write of the proved library with the harness's own, on records\n\
-            of drawn histories and on damaged copies of them, and on replica lists with and\n\
-            without a repeat. Each input is read, and its fields are written.",
+            of drawn histories and on damaged copies of them, on replica lists with and\n\
+            without a repeat, and on log offsets. Each input is read, and its fields are written.",
 };
 
 /// How often each number was the answer.
@@ -30,23 +30,26 @@ fn main() -> ExitCode {
             compare_write(&mut written, &lists, out)?;
         }
         let (read, written) = (told("Read", &read), told("Write", &written));
-        let lists = compare_replica_lists()?;
+        let lists = compare_known(&replica_lists())?;
+        let offsets = compare_known(&log_offsets())?;
         Ok(format!(
-            "{count} inputs, all equal\n{read}{written}replica lists, all equal\n{lists}"
+            "{count} inputs, all equal\n{read}{written}\
+             replica lists, all equal\n{lists}\
+             log offsets, all equal\n{offsets}"
         ))
     })
 }
 
 /// Read of each record has the number that is known of it, and so has Write: it
 /// comes before 19, which an output that is a byte too short has of the others.
-fn compare_replica_lists() -> Result<String, String> {
+fn compare_known(records: &[(Vec<u8>, u8)]) -> Result<String, String> {
     let (mut read, mut written) = ([0; 256], [0; 256]);
-    for (record, number) in replica_lists() {
-        if wire::read(&record).err().unwrap_or(0) != number {
+    for (record, number) in records {
+        if wire::read(record).err().unwrap_or(0) != *number {
             return Err(format!("{number} is known of {record:02x?}"));
         }
-        compare_read(&mut read, &record)?;
-        let lists = Lists::of(&record);
+        compare_read(&mut read, record)?;
+        let lists = Lists::of(record);
         for room in [record.len(), record.len() - 1, 0] {
             compare_write(&mut written, &lists, vec![7; room])?;
         }

@@ -12,7 +12,13 @@ unsafe extern "C" {
         input: *const u8,
         input_len: usize,
     ) -> u64;
-    fn jeghatuf_apply(image: *mut u8, image_len: usize, input: *const u8, input_len: usize) -> u64;
+    fn jeghatuf_apply(
+        image: *mut u8,
+        image_len: usize,
+        offset: u64,
+        input: *const u8,
+        input_len: usize,
+    ) -> u64;
     fn jeghatuf_topic(
         image: *const u8,
         image_len: usize,
@@ -45,6 +51,12 @@ unsafe extern "C" {
         out_len: usize,
     ) -> u64;
     fn jeghatuf_features_epoch(
+        image: *const u8,
+        image_len: usize,
+        value: *mut u64,
+        value_len: usize,
+    ) -> u64;
+    fn jeghatuf_log_offset(
         image: *const u8,
         image_len: usize,
         value: *mut u64,
@@ -89,11 +101,19 @@ pub fn validate(image: &[u8], input: &[u8]) -> u8 {
     number(answer)
 }
 
-/// Applies the record at the start of the input, where the number is 0.
-pub fn apply(image: &mut [u8], input: &[u8]) -> u8 {
+/// Applies the record at the start of the input, where the number is 0. Its log
+/// offset goes as its bits.
+pub fn apply(image: &mut [u8], offset: i64, input: &[u8]) -> u8 {
     // SAFETY: each pointer and length are a slice's, and `image` is borrowed alone.
-    let answer =
-        unsafe { jeghatuf_apply(image.as_mut_ptr(), image.len(), input.as_ptr(), input.len()) };
+    let answer = unsafe {
+        jeghatuf_apply(
+            image.as_mut_ptr(),
+            image.len(),
+            offset.cast_unsigned(),
+            input.as_ptr(),
+            input.len(),
+        )
+    };
     number(answer)
 }
 
@@ -165,12 +185,22 @@ pub fn broker(image: &[u8], node: u64, out: &mut [u8]) -> Result<usize, u8> {
     })
 }
 
+/// A lookup of a number that every image has: an image, and where it goes.
+type OfImage = unsafe extern "C" fn(*const u8, usize, *mut u64, usize) -> u64;
+
+fn of_image(lookup: OfImage, image: &[u8], value: &mut [u64]) -> Result<usize, u8> {
+    // SAFETY: each pointer and length are a slice's, and `value` is borrowed alone.
+    unpacked(unsafe { lookup(image.as_ptr(), image.len(), value.as_mut_ptr(), value.len()) })
+}
+
 /// Puts the bits of the features epoch into `value[0]`. The value is 0.
 pub fn features_epoch(image: &[u8], value: &mut [u64]) -> Result<usize, u8> {
-    // SAFETY: each pointer and length are a slice's, and `value` is borrowed alone.
-    unpacked(unsafe {
-        jeghatuf_features_epoch(image.as_ptr(), image.len(), value.as_mut_ptr(), value.len())
-    })
+    of_image(jeghatuf_features_epoch, image, value)
+}
+
+/// Puts the bits of the log offset into `value[0]`. The value is 0.
+pub fn log_offset(image: &[u8], value: &mut [u64]) -> Result<usize, u8> {
+    of_image(jeghatuf_log_offset, image, value)
 }
 
 /// How many partitions have an ISR smaller than the number of their replicas

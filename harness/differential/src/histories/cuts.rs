@@ -1,13 +1,13 @@
 //! Histories with cuts at any places, beside the same ones uncut and beside the
 //! reference; and Restore of bytes that no snapshot wrote.
 
-use oracle::held::is_held;
-use wire::{Random, damaged, decode, hex};
+use wire::{Random, hex};
 
 use super::course::Course;
 use super::drawn::{Drawn, capacities};
 use super::premises::{Premises, alike};
 use super::restart::{compare_no_capacity, compare_restore};
+use super::runs::to_restore;
 use super::told;
 use crate::images::{Compared, Tally};
 
@@ -15,8 +15,6 @@ use crate::images::{Compared, Tally};
 const OFTEN: [usize; 4] = [1, 3, 8, 20];
 /// One step in so many is followed by all questions to both images.
 const ASKED: usize = 6;
-/// How often each of the bytes that no snapshot wrote is drawn.
-const DRAWS: usize = 2;
 
 /// Compares the history of a seed, with cuts and without, at one capacity.
 pub fn compare_cuts(tally: &mut Tally, seed: u64) -> Compared {
@@ -61,8 +59,8 @@ impl Pair {
         })
     }
 
-    /// The same step for both. The verdicts are equal as long as the premises
-    /// hold of the uncut history.
+    /// The same step for both. The verdicts and the log offsets are equal as long
+    /// as the premises hold of the uncut history.
     fn take(&mut self, tally: &mut Tally, input: &[u8]) -> Compared {
         self.premises.see_image(&self.uncut.reference);
         let uncut = self
@@ -70,9 +68,13 @@ impl Pair {
             .take(&mut Tally::default(), input, self.validated)?;
         let cut = self.cut.take(tally, input, self.validated)?;
         self.premises.see_step(input, uncut);
-        match uncut == cut || !self.premises.hold() {
+        let offsets = [&self.uncut, &self.cut].map(|course| course.reference.offset);
+        let equal = uncut == cut && offsets[0] == offsets[1];
+        match equal || !self.premises.hold() {
             true => Ok(()),
-            false => Err(format!("the cut history says {cut:?}, the uncut {uncut:?}")),
+            false => Err(format!(
+                "the cut history says {cut:?}, the uncut {uncut:?}; the log offsets: {offsets:?}"
+            )),
         }
     }
 
@@ -99,37 +101,11 @@ fn compare_bytes(
     course: &Course,
     inputs: &[Vec<u8>],
 ) -> Compared {
-    compare_no_capacity(tally, random, &course.expected_snapshot())?;
-    for input in to_restore(random, &course.expected_snapshot(), inputs) {
+    let snapshot = course.expected_snapshot();
+    compare_no_capacity(tally, random, &snapshot)?;
+    for input in to_restore(random, &snapshot, inputs) {
         compare_restore(tally, random, course.buffer.len(), &input)
             .map_err(|difference| format!("{difference}\nof these bytes: {}", hex(&input)))?;
     }
     Ok(())
-}
-
-/// The history's inputs as they are; the snapshot in its order, twice, cut
-/// anywhere, with any damage, and in another order. Those that are not held
-/// against the reference are left out.
-fn to_restore(random: &mut Random, snapshot: &[u8], inputs: &[Vec<u8>]) -> Vec<Vec<u8>> {
-    let mut all = vec![inputs.concat(), snapshot.to_vec(), snapshot.repeat(2)];
-    for _ in 0..DRAWS {
-        all.push(shuffled(random, snapshot));
-        if !snapshot.is_empty() {
-            all.push(snapshot[..random.below(snapshot.len())].to_vec());
-            all.push(damaged(random, snapshot));
-        }
-    }
-    all.retain(|run| is_held(run));
-    all
-}
-
-/// The records of a snapshot in any order.
-fn shuffled(random: &mut Random, snapshot: &[u8]) -> Vec<u8> {
-    let mut records: Vec<&[u8]> = Vec::new();
-    let mut rest = snapshot;
-    while let Ok((_, used)) = decode(rest) {
-        records.insert(random.below(records.len() + 1), &rest[..used]);
-        rest = &rest[used..];
-    }
-    records.concat()
 }

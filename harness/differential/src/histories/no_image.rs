@@ -5,7 +5,7 @@ use oracle::cases::cases;
 use oracle::exact::is_image;
 use oracle::facts::build::{delete_topic, feature_level, topic};
 use oracle::verdict::NO_IMAGE;
-use wire::{Random, encoded};
+use wire::{Random, encoded, encoded_offset};
 
 use super::course::Course;
 use super::{expect, told};
@@ -27,14 +27,15 @@ pub fn compare_no_image(tally: &mut Tally) -> Compared {
 }
 
 /// Records, and bytes that are none: they too get 1, which comes first.
-fn inputs() -> [Vec<u8>; 5] {
+fn inputs() -> [Vec<u8>; 6] {
     let bytes = |record| encoded(&record);
     [
         bytes(topic("p", 1, 0, 1)),
         bytes(delete_topic("p")),
         bytes(feature_level("a", 1)),
         Vec::new(),
-        vec![26, 0, 0],
+        vec![27, 0, 0],
+        encoded_offset(0),
     ]
 }
 
@@ -76,8 +77,10 @@ fn compare_numbers(tally: &mut Tally, bytes: &[u8], input: &[u8]) -> Compared {
     let mut buffer = bytes.to_vec();
     let number = validate(&buffer, input);
     expect(tally, "Validate, no image", number, NO_IMAGE)?;
-    let number = apply(&mut buffer, input);
-    expect(tally, "Apply, no image", number, NO_IMAGE)?;
+    for offset in [i64::MIN, 0, i64::MAX] {
+        let number = apply(&mut buffer, offset, input);
+        expect(tally, "Apply, no image", number, NO_IMAGE)?;
+    }
     match buffer == bytes {
         true => Ok(()),
         false => Err(format!("Apply leaves {}", shown(&buffer))),

@@ -7,8 +7,9 @@ use krabka_metadata::{ClientQuotaRecord, EntityKey, MetadataRecord, QuotaEntity}
 use oracle::generate::{Generator, Knobs};
 use oracle::image::{MOST_CAPACITY, image, layout, weight};
 use oracle::order::entity_key;
+use oracle::snapshot::{start, starting};
 use oracle::verdict::NO_IMAGE;
-use wire::{Random, decode, encoded, encoded_all, hex};
+use wire::{NO_RECORD, Random, decode, encoded, encoded_all, hex};
 
 use super::expect;
 use super::reference::Reference;
@@ -132,11 +133,11 @@ fn compare_spellings(tally: &mut Tally, random: &mut Random, list: &List) -> Com
         let mut buffer = random.bytes(CAPACITY);
         open(&mut buffer).map_err(|number| format!("Open says {number}"))?;
         let given = quota(&order, "rate", Some(1.0));
-        let number = apply(&mut buffer, &encoded(&given));
+        let number = apply(&mut buffer, with.offset, &encoded(&given));
         expect(tally, "a quota in another order", number, 0)?;
         same(&buffer, &stored, &given)?;
         let other = quota(&shuffled(random, list), "rate", None);
-        let number = apply(&mut buffer, &encoded(&other));
+        let number = apply(&mut buffer, without.offset, &encoded(&other));
         expect(tally, "a removal in another order", number, 0)?;
         same(&buffer, &left, &other)?;
         compare_given(tally, &given)?;
@@ -146,8 +147,13 @@ fn compare_spellings(tally: &mut Tally, random: &mut Random, list: &List) -> Com
 
 /// The reference after the quota with its list sorted.
 fn after(reference: &Reference, quota: &MetadataRecord) -> Reference {
-    let bytes = encoded(&sorted(quota));
-    reference.after(&bytes).expect("a quota is applied")
+    next(reference, &sorted(quota)).expect("a quota is applied")
+}
+
+/// The reference after a record at the next log offset.
+fn next(reference: &Reference, record: &MetadataRecord) -> Option<Reference> {
+    let offset = reference.offset + 1;
+    reference.after(offset, &encoded(record)).ok()
 }
 
 fn laid_out(reference: &Reference) -> Vec<u8> {
@@ -180,7 +186,7 @@ fn compare_given(tally: &mut Tally, given: &MetadataRecord) -> Compared {
     let mut out = vec![0; CAPACITY];
     let numbers = [
         validate(&buffer, &layout.entries[0]),
-        apply(&mut buffer, &layout.entries[0]),
+        apply(&mut buffer, 0, &layout.entries[0]),
         snapshot(&buffer, &mut out).err().unwrap_or(0),
     ];
     for number in numbers {
@@ -208,8 +214,7 @@ fn drawn_run(random: &mut Random, seed: u64) -> Vec<MetadataRecord> {
             generator.record(&reference.image),
         ];
         for record in records {
-            let after = reference.after(&encoded(&sorted(&record)));
-            let after = after.ok().filter(fits);
+            let after = next(&reference, &sorted(&record)).filter(fits);
             if let Some(after) = after {
                 reference = after;
                 run.push(record);
@@ -244,7 +249,8 @@ fn later_values(run: &[MetadataRecord]) -> BTreeMap<(EntityKey, String), u64> {
 fn stored_values(buffer: &[u8]) -> Result<BTreeMap<(EntityKey, String), u64>, String> {
     let mut out = vec![0; MOST_CAPACITY];
     let end = snapshot(buffer, &mut out).map_err(|number| format!("Snapshot says {number}"))?;
-    let (mut rest, mut values) = (&out[..end], BTreeMap::new());
+    let (_, first) = start(&out[..end]).map_err(|number| format!("{number} at the start"))?;
+    let (mut rest, mut values) = (&out[first..end], BTreeMap::new());
     while let Ok((record, used)) = decode(rest) {
         if let MetadataRecord::V1ClientQuota(quota) = record {
             let place = (entity_key(&quota.entity), quota.config_key);
@@ -265,7 +271,7 @@ fn compare_run(tally: &mut Tally, run: &[MetadataRecord]) -> Compared {
 /// image has.
 fn compare_old_snapshot(tally: &mut Tally, run: &[MetadataRecord]) -> Compared {
     let old = run.iter().fold(Reference::new(), |old, record| {
-        old.after(&encoded(record)).unwrap_or(old)
+        next(&old, record).unwrap_or(old)
     });
     let old = old.restarted();
     let snapshot = old.observed().records;
@@ -286,7 +292,7 @@ fn compare_restored(
     run: &[MetadataRecord],
     capacity: usize,
 ) -> Result<usize, String> {
-    let bytes = encoded_all(run);
+    let bytes = starting(NO_RECORD, &encoded_all(run));
     let mut buffer = vec![0xA5; capacity];
     let answer = restore(&mut buffer, &bytes);
     tally.count(what, 0);
@@ -294,7 +300,8 @@ fn compare_restored(
         return Err(format!("Restore says {answer:?} of {}", hex(&bytes)));
     }
     let sorted: Vec<MetadataRecord> = run.iter().map(sorted).collect();
-    let (reference, stopped) = Reference::restored(&encoded_all(&sorted), capacity);
+    let sorted = starting(NO_RECORD, &encoded_all(&sorted));
+    let (reference, stopped) = Reference::restored(&sorted, capacity);
     let expected = image(&reference.observed(), capacity);
     if stopped.is_some() || expected.as_ref() != Some(&buffer) {
         return Err(format!("Restore leaves another image of {}", hex(&bytes)));

@@ -1,13 +1,14 @@
 //! Snapshot and Restore of a history's image.
 
+use oracle::snapshot;
 use oracle::verdict::NO_IMAGE;
-use wire::{Random, TOO_SHORT, encoded_all};
+use wire::{Random, TOO_SHORT};
 
 use super::course::Course;
 use super::expect;
 use super::reference::{Reference, Stopped};
 use crate::images::{Compared, Tally};
-use crate::{restore, snapshot};
+use crate::restore;
 
 /// The most bytes that a snapshot's buffer is longer than it must be.
 const LONGER: usize = 40;
@@ -32,7 +33,7 @@ impl Course {
         let mut short = random.bytes(bytes.len().saturating_sub(1));
         if short.len() < bytes.len() {
             let before = short.clone();
-            let number = snapshot(&self.buffer, &mut short).err().unwrap_or(0);
+            let number = crate::snapshot(&self.buffer, &mut short).err().unwrap_or(0);
             expect(tally, "Snapshot", number, TOO_SHORT)?;
             if short != before {
                 return Err("Snapshot changes an output that is too short".to_owned());
@@ -41,7 +42,7 @@ impl Course {
         let longer = random.below(LONGER);
         let mut out = random.bytes(bytes.len() + longer);
         let end = [&bytes, &out[bytes.len()..]].concat();
-        let answer = snapshot(&self.buffer, &mut out);
+        let answer = crate::snapshot(&self.buffer, &mut out);
         tally.count("Snapshot", 0);
         match answer == Ok(bytes.len()) && out == end {
             true => Ok(bytes),
@@ -49,9 +50,9 @@ impl Course {
         }
     }
 
-    /// The reference's `to_records`, in 01's order.
+    /// The log offset, and the reference's `to_records` in 01's order.
     pub fn expected_snapshot(&self) -> Vec<u8> {
-        encoded_all(&self.reference.observed().records)
+        snapshot::snapshot(&self.reference.observed())
     }
 }
 
@@ -77,7 +78,7 @@ pub fn compare_restore(
 /// Restore into buffers that no image fits: 1 without a place, whatever the
 /// input is, and nothing changes.
 pub fn compare_no_capacity(tally: &mut Tally, random: &mut Random, input: &[u8]) -> Compared {
-    for capacity in [0, 127, 65_537] {
+    for capacity in [0, 128, 143, 65_537] {
         let before = random.bytes(capacity);
         let mut buffer = before.clone();
         let answer = restore(&mut buffer, input);

@@ -6,8 +6,8 @@ use oracle::observe::Observed;
 use super::lookups::queries;
 use super::rules::{LEVELS, frozen_names, throttled_nodes};
 use crate::{
-    broker, downgrade, features_epoch, freeze, partition, short_count, snapshot, throttle, topic,
-    topic_by_id,
+    broker, downgrade, features_epoch, freeze, log_offset, partition, short_count, snapshot,
+    throttle, topic, topic_by_id,
 };
 
 /// The number or the bytes written, the output's end, and the values' end.
@@ -23,6 +23,7 @@ pub enum Question {
     Partition(String, i32),
     Broker(u64),
     Epoch,
+    Offset,
     Short,
     Freeze(String),
     Throttle(u64, u8),
@@ -33,7 +34,7 @@ pub enum Question {
 /// What is stored, and what is near it.
 pub fn questions(image: &MetadataImage, observed: &Observed) -> Vec<Question> {
     use Question::*;
-    let mut all = vec![Epoch, Short, Snapshot];
+    let mut all = vec![Epoch, Offset, Short, Snapshot];
     all.extend(queries::names(image).into_iter().map(Topic));
     all.extend(queries::ids(image).into_iter().map(Id));
     let places = queries::partitions(image).into_iter();
@@ -58,6 +59,7 @@ impl Question {
             Self::Partition(name, number) => partition(image, name.as_bytes(), *number, &mut out),
             Self::Broker(node) => broker(image, *node, &mut out),
             Self::Epoch => features_epoch(image, &mut values),
+            Self::Offset => log_offset(image, &mut values),
             Self::Short => short_count(image),
             Self::Freeze(name) => freeze(image, name.as_bytes(), &mut out),
             Self::Throttle(node, kind) => throttle(image, *node, *kind, &mut values),

@@ -1,6 +1,6 @@
 //! Buffers near an image, and random ones.
 
-use oracle::image::MOST_CAPACITY;
+use oracle::image::{FIXED_ROOM, MOST_CAPACITY};
 use oracle::layout::{HEAD_SIZE, Layout};
 use wire::{Random, damaged};
 
@@ -138,7 +138,7 @@ fn compare_layout(
     layout: &Layout,
     made: impl Fn() -> String,
 ) -> Compared {
-    let weight = layout.used() + 64;
+    let weight = layout.used() + FIXED_ROOM - HEAD_SIZE;
     for capacity in [weight - 36, weight, weight + 200] {
         if capacity <= MOST_CAPACITY {
             exact::compare(tally, what, &layout.bytes(capacity), &made)?;
@@ -164,6 +164,7 @@ pub fn compare_random(tally: &mut Tally, seed: u64) -> Compared {
         let layout = Layout {
             epoch: random.bits() as i64,
             kraft: random.bits() as u16,
+            offset: random.bits() as i64,
             entries: vec![buffer[HEAD_SIZE..used].to_vec()],
         };
         buffer = layout.bytes(length);

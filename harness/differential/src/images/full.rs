@@ -18,6 +18,8 @@ const FROZEN: &str = "plan-";
 pub struct Full {
     pub bytes: Vec<u8>,
     pub image: MetadataImage,
+    /// Its log offset.
+    pub offset: i64,
     /// The plan in the middle.
     pub name: String,
     pub id: Uuid,
@@ -32,6 +34,7 @@ impl Full {
         Self {
             bytes,
             image: subject.image,
+            offset: subject.observed.offset,
             name: name(plans / 2),
             id: id(plans / 2),
         }

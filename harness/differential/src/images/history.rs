@@ -69,7 +69,7 @@ fn compare_below(tally: &mut Tally, subject: &Subject) -> Compared {
     let buffer = subject.layout.bytes(subject.weight - 1);
     let made = || format!("a capacity below the weight {}", subject.weight);
     let what = match buffer.len() < FIXED_ROOM {
-        true => "capacities below 128",
+        true => "capacities below 144",
         false => "capacities one below the weight",
     };
     exact::expect(tally, what, &buffer, false, made)

@@ -10,7 +10,7 @@ use wire::{OVER_A_LIMIT, WRONG_FIELD, encoded, hex};
 
 use super::subject::{On, Subject};
 use super::{Compared, Tally};
-use crate::{broker, features_epoch, partition, short_count, topic, topic_by_id};
+use crate::{broker, features_epoch, log_offset, partition, short_count, topic, topic_by_id};
 pub use answer::{compare_record, compare_refused, compare_value};
 
 /// All lookups of `image`, which holds what the subject does.
@@ -79,11 +79,14 @@ fn compare_brokers(tally: &mut Tally, subject: &Subject, image: &[u8]) -> Compar
     Ok(())
 }
 
-/// The features epoch and the short count.
+/// The features epoch, the log offset and the short count.
 fn compare_numbers(tally: &mut Tally, subject: &Subject, image: &[u8]) -> Compared {
     let epoch = subject.image.finalized_features_epoch();
     let call = |value: &mut [u64]| features_epoch(image, value).map(|zero| zero + 1);
     compare_value(tally, "features epoch", Ok(Some(epoch)), call)?;
+    let offset = subject.observed.offset;
+    let call = |value: &mut [u64]| log_offset(image, value).map(|zero| zero + 1);
+    compare_value(tally, "log offset", Ok(Some(offset)), call)?;
     let (answer, expected) = (short_count(image), Ok(subject.observed.short));
     tally.count("short count", 0);
     match answer == expected {
@@ -106,8 +109,10 @@ pub fn compare_no_image(tally: &mut Tally, buffer: &[u8]) -> Compared {
     compare_refused(tally, what, || "the id 0".to_owned(), NO_IMAGE, call)?;
     let call = |out: &mut [u8]| broker(buffer, 1, out);
     compare_refused(tally, what, || "a broker".to_owned(), NO_IMAGE, call)?;
-    let call = |value: &mut [u64]| features_epoch(buffer, value);
-    compare_value(tally, what, Err(NO_IMAGE), call)?;
+    for number in [features_epoch, log_offset] {
+        let call = |value: &mut [u64]| number(buffer, value);
+        compare_value(tally, what, Err(NO_IMAGE), call)?;
+    }
     tally.count(what, NO_IMAGE);
     match short_count(buffer) {
         Err(NO_IMAGE) => Ok(()),

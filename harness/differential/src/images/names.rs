@@ -107,7 +107,7 @@ impl Pair {
         self.image.apply(&record);
         tally.count("names, applied", ACCEPTED);
         expect("Apply", input, ACCEPTED, |input| {
-            apply(&mut self.buffer, input)
+            apply(&mut self.buffer, 0, input)
         })
     }
 }

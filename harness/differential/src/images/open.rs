@@ -8,8 +8,8 @@ use super::subject::Subject;
 use super::{Compared, Tally, lookups};
 use crate::{is_image, open};
 
-const CAPACITIES: [usize; 13] = [
-    0, 1, 63, 64, 127, 128, 129, 4_096, 65_535, 65_536, 65_537, 65_600, 131_072,
+const CAPACITIES: [usize; 14] = [
+    0, 1, 63, 64, 128, 143, 144, 145, 4_096, 65_535, 65_536, 65_537, 65_600, 131_072,
 ];
 
 pub fn compare_open(tally: &mut Tally, seed: u64) -> Compared {

@@ -6,6 +6,7 @@ use std::collections::BTreeSet;
 use krabka_metadata::{MetadataImage, MetadataRecord, NodeId};
 use oracle::downgrade::downgrade as listing;
 use oracle::observe::Observed;
+use oracle::snapshot::snapshot as snapshot_of;
 use oracle::verdict::NO_IMAGE;
 use wire::choices::THROTTLE_KINDS;
 use wire::{WRONG_FIELD, encoded, encoded_all};
@@ -105,7 +106,7 @@ fn compare_downgrades(tally: &mut Tally, subject: &Subject, image: &[u8]) -> Com
 }
 
 fn compare_snapshot(tally: &mut Tally, subject: &Subject, image: &[u8]) -> Compared {
-    let records = encoded_all(&subject.observed.records);
+    let records = snapshot_of(&subject.observed);
     let question = || "the snapshot".to_owned();
     let call = |out: &mut [u8]| snapshot(image, out);
     compare_record(tally, "snapshot", question, Some(records), call)

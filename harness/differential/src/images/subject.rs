@@ -25,8 +25,8 @@ pub struct Subject {
 }
 
 impl Subject {
-    /// Applies the records without validation. An offset that leaves i64 is
-    /// left out: the reference has no answer there.
+    /// Applies the records without validation, at the log offsets 0, 1, .. An
+    /// offset that leaves i64 is left out: the reference has no answer there.
     pub fn of(records: &[MetadataRecord]) -> Self {
         let mut image = MetadataImage::new(Uuid::nil());
         let mut witness = Witness::default();
@@ -36,7 +36,7 @@ impl Subject {
                 image.apply(record);
             }
         }
-        let observed = observe(&image, &witness);
+        let observed = observe(&image, &witness).at(records.len() as i64 - 1);
         Self {
             layout: layout(&observed),
             weight: weight(&observed),

@@ -45,7 +45,7 @@ pub fn compare_no_image(tally: &mut Tally, buffer: &[u8]) -> Compared {
     let epoch = encoded(&MetadataRecord::V1FeaturesEpoch(record));
     for input in [&epoch[..], &epoch[1..], &[]] {
         let mut after = buffer.to_vec();
-        let numbers = (validate(buffer, input), apply(&mut after, input));
+        let numbers = (validate(buffer, input), apply(&mut after, 0, input));
         tally.count(what, numbers.0);
         tally.count(what, numbers.1);
         if numbers != (NO_IMAGE, NO_IMAGE) || after != buffer {

@@ -4,7 +4,7 @@ use krabka_metadata::{
     BrokerRegistrationChangeRecord, FencingChange, MetadataRecord, NodeId, PartitionUpdateRecord,
     PatternType, UnregisterBrokerRecord, UnregisterControllerRecord,
 };
-use wire::encoded;
+use wire::{encoded, encoded_offset};
 
 use super::samples::all_kinds;
 use super::{Cases, applied};
@@ -143,8 +143,8 @@ fn replicas(cases: &mut Cases) {
 fn kinds(cases: &mut Cases) {
     let base = applied(&all_kinds());
     let levels = base.place_of(11) + 2;
-    for record in never_stored() {
-        let entry = encoded(&record);
+    let offset = encoded_offset(0);
+    for entry in never_stored().iter().map(encoded).chain([offset]) {
         let kind = entry[0];
         for place in [0, levels, base.entries.len()] {
             let layout = base.clone().insert(place, entry.clone());
@@ -153,7 +153,7 @@ fn kinds(cases: &mut Cases) {
         let alone = applied(&[]).append(entry);
         cases.no_image(format!("kind {kind} alone"), alone.roomy());
     }
-    for kind in [0, 26, 255] {
+    for kind in [0, 26, 27, 255] {
         let entry = vec![kind, 0, 0];
         cases.no_image(format!("kind {kind}"), base.clone().append(entry).roomy());
     }

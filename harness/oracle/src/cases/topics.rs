@@ -117,7 +117,7 @@ fn ids(cases: &mut Cases) {
 }
 
 /// How many topics of a four-byte name an image can hold.
-const CROWD: u32 = (65_536 - 128) / 49;
+const CROWD: u32 = (65_536 - 144) / 49;
 
 /// The id of a number.
 type IdOf = fn(u64) -> Uuid;

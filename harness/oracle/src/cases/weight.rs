@@ -15,41 +15,41 @@ pub fn add(cases: &mut Cases) {
     full(cases);
 }
 
-/// The weight of each is written out: 128, the records, 8 for each topic.
+/// The weight of each is written out: 144, the records, 8 for each topic.
 fn small(cases: &mut Cases) {
     let level = || feature_level("a", 1);
     let producer = || producer_ids(1, 0, 1);
     let lists: [(&str, Vec<MetadataRecord>, usize); 8] = [
-        ("a level", vec![level()], 128 + 12),
-        ("ProducerIds", vec![producer()], 128),
+        ("a level", vec![level()], 144 + 12),
+        ("ProducerIds", vec![producer()], 144),
         (
             "ProducerIds and a level",
             vec![producer(), level()],
-            128 + 12,
+            144 + 12,
         ),
-        ("a topic", vec![topic("p", 1, 0, 1)], 128 + 38 + 8),
+        ("a topic", vec![topic("p", 1, 0, 1)], 144 + 38 + 8),
         (
             "a topic with a partition",
             vec![topic("p", 1, 0, 1), partition_record("p", 0, &[])],
-            128 + 38 + 8 + 54,
+            144 + 38 + 8 + 54,
         ),
         (
             "an empty broker group",
             vec![broker_config(1, "a", None)],
-            128 + 17,
+            144 + 17,
         ),
-        ("an empty quota group", vec![quota(&[], "a", None)], 128 + 6),
+        ("an empty quota group", vec![quota(&[], "a", None)], 144 + 6),
         (
             "an empty group and ProducerIds",
             vec![broker_config(1, "a", None), producer()],
-            128 + 17,
+            144 + 17,
         ),
     ];
     for (name, records, weight) in lists {
         at_and_below(cases, name, &applied(&records), weight);
     }
     let all = applied(&all_kinds());
-    let weight = all.used() + 64 - 36;
+    let weight = all.used() + 80 - 36;
     at_and_below(cases, "all kinds", &all, weight);
     let mut fewer = all;
     fewer.entries.remove(fewer.place_of(8));
@@ -82,7 +82,7 @@ fn full(cases: &mut Cases) {
 
 /// Feature levels of this weight: entries of 256 bytes, and one of the rest.
 fn levels(weight: usize) -> Layout {
-    let room = weight - 128;
+    let room = weight - 144;
     let (whole, rest) = (room / 256, room % 256);
     let sizes = std::iter::repeat_n(256, whole).chain([rest]);
     let level = |(number, size): (usize, usize)| {

@@ -1,7 +1,7 @@
 //! How the stored histories are drawn.
 
 use krabka_metadata::MetadataImage;
-use wire::{Random, damaged, encoded};
+use wire::{Random, damaged, encoded, encoded_offset};
 
 use super::run::Run;
 use super::{STEP, STEP_ALWAYS};
@@ -76,7 +76,7 @@ impl Plan {
             if !is_held(&input) {
                 continue;
             }
-            run.step(self.operation(), &input);
+            run.step(self.operation(), inputs.len() as i64, &input);
             inputs.push(input);
         }
         if self.damaged {
@@ -93,7 +93,7 @@ impl Plan {
             8 => MOST_CAPACITY + 1,
             9 => 50,
             10 => FIXED_ROOM,
-            11 => 139,
+            11 => FIXED_ROOM + 11,
             number => [
                 MOST_CAPACITY,
                 needed,
@@ -109,8 +109,8 @@ impl Plan {
     /// The most that the contents weigh along the history.
     fn needed(&self, inputs: &[Vec<u8>]) -> usize {
         let mut run = Run::at(MOST_CAPACITY);
-        let weights = inputs.iter().map(|input| {
-            run.step(self.operation(), input);
+        let weights = (0..).zip(inputs).map(|(offset, input)| {
+            run.step(self.operation(), offset, input);
             weight(&run.observed())
         });
         weights.max().unwrap_or(FIXED_ROOM)
@@ -128,15 +128,18 @@ fn next(generator: &mut Generator, image: &MetadataImage) -> Vec<u8> {
     }
 }
 
-/// No bytes, 2; an unknown kind, 3; a DeleteTopic without its name, 4, and with one that is too long, 5; a partition with a replica twice, 20; an
-/// unlawful topic name, 24.
-fn refused() -> [Vec<u8>; 6] {
+/// No bytes, 2; unknown kinds, 3, and so is a log offset, with a right body and with wrong ones; a DeleteTopic without its name, 4, and with one that
+/// is too long, 5; a partition with a replica twice, 20; an unlawful topic name, 24.
+fn refused() -> [Vec<u8>; 9] {
     let long = [&[4, 1, 3, 1, 1, 0], [b'n'; 256].as_slice()].concat();
     let repeated = encoded(&partition_record("p", 0, &[1, 2, 1]));
     let unlawful = encoded(&topic("Smith/2", 1, 0, 1));
     [
         vec![],
+        vec![27, 0, 0],
         vec![26, 0, 0],
+        encoded_offset(1 << 40),
+        encoded_offset(-2),
         vec![4, 0, 0],
         long,
         repeated,

@@ -2,24 +2,33 @@
 
 use krabka_metadata::MetadataRecord;
 use wire::{
-    HEADER, OVER_A_LIMIT, PAST_THE_END, REPEATED, Random, UNKNOWN_KIND, WRONG_FIELD, damaged,
-    decode, encode, read,
+    HEADER, LOG_OFFSET, Lists, OVER_A_LIMIT, PAST_THE_END, REPEATED, Random, UNKNOWN_KIND,
+    WRONG_FIELD, damaged, decode, encode, encoded_offset, read, write,
 };
 
 use crate::samples;
 
-/// The bytes of the filled and of the emptied records.
+/// The bytes of the filled and of the emptied records, and of log offsets.
 fn good() -> Vec<Vec<u8>> {
     let filled = samples::filled().into_iter().map(|(record, _)| record);
     let records: Vec<MetadataRecord> = filled.chain(samples::emptied()).collect();
-    records.iter().flat_map(encode).collect()
+    let offsets = [-1, 0, i64::MAX].map(encoded_offset);
+    records.iter().flat_map(encode).chain(offsets).collect()
 }
 
 /// The bytes are refused with one of `read`'s numbers, or they decode to a
-/// record that encodes to them again.
+/// record that encodes to them again; a log offset is written again.
 fn holds(bytes: &[u8]) {
     let answer = read(bytes);
     match decode(bytes) {
+        _ if answer.is_ok() && bytes[0] == LOG_OFFSET => {
+            let mut out = vec![0; bytes.len()];
+            let written = write(&Lists::of(bytes), &mut out);
+            assert_eq!(written, answer);
+            assert!(written.is_ok_and(|used| out[..used] == bytes[..used]));
+            assert_eq!(decode(bytes), Err(UNKNOWN_KIND));
+        }
+        Err(UNKNOWN_KIND) if bytes[0] == LOG_OFFSET => assert_eq!(answer, Err(WRONG_FIELD)),
         Ok((record, used)) => {
             assert_eq!(answer, Ok(used));
             assert_eq!(encode(&record).unwrap(), bytes[..used]);

@@ -1,27 +1,51 @@
 //! What is wrong in a record whose limits are kept: 2, 3 and 4.
 
 use wire::table::{Form, KINDS, Presence, Row};
-use wire::{PAST_THE_END, UNKNOWN_KIND, WRONG_FIELD, read};
+use wire::{PAST_THE_END, UNKNOWN_KIND, WRONG_FIELD, encoded_offset, read, read_logged};
 
 use crate::runs::{field, longest, record, variants};
 
 #[test]
 fn past_the_end_comes_before_an_unknown_kind() {
-    for kind in [0, 1, 26, 255] {
-        assert_eq!(read(&[kind]), Err(PAST_THE_END));
-        assert_eq!(read(&[kind, 0]), Err(PAST_THE_END));
-        assert_eq!(read(&[kind, 0, 1]), Err(PAST_THE_END));
-        assert_eq!(read(&[kind, 1, 0, 0, 0]), Err(PAST_THE_END));
+    for kind in [0, 1, 26, 27, 255] {
+        for cut in [&[kind][..], &[kind, 0], &[kind, 0, 1], &[kind, 1, 0, 0, 0]] {
+            assert_eq!(read(cut), Err(PAST_THE_END));
+            assert_eq!(read_logged(cut), Err(PAST_THE_END));
+        }
     }
-    for kind in [0, 26, 255] {
-        assert_eq!(read(&[kind, 0, 0]), Err(UNKNOWN_KIND));
-        assert_eq!(read(&[kind, 0, 1, 0]), Err(UNKNOWN_KIND));
+    for kind in [0, 27, 255] {
+        for whole in [&[kind, 0, 0][..], &[kind, 0, 1, 0]] {
+            assert_eq!(read(whole), Err(UNKNOWN_KIND));
+            assert_eq!(read_logged(whole), Err(UNKNOWN_KIND));
+        }
+    }
+}
+
+/// Of the log no record has kind 26, whatever its body is.
+#[test]
+fn the_log_has_no_log_offset() {
+    let longer = [encoded_offset(5), vec![0; 3]].concat();
+    for offset in [encoded_offset(-1), encoded_offset(i64::MAX), longer] {
+        assert_eq!(read(&offset), Ok(14));
+        assert_eq!(read_logged(&offset), Err(UNKNOWN_KIND));
+    }
+    let wrong = [
+        encoded_offset(-2),
+        encoded_offset(i64::MIN),
+        vec![26, 0, 0],
+        vec![26, 0, 1, 0],
+        record(26, &[field(2, [0; 8])]),
+        record(26, &[field(1, [0; 8]), field(2, [])]),
+    ];
+    for bytes in wrong {
+        assert_eq!(read(&bytes), Err(WRONG_FIELD), "{bytes:?}");
+        assert_eq!(read_logged(&bytes), Err(UNKNOWN_KIND), "{bytes:?}");
     }
 }
 
 #[test]
 fn an_empty_body_lacks_a_field() {
-    for kind in 1..=25 {
+    for kind in 1..=26 {
         assert_eq!(read(&[kind, 0, 0]), Err(WRONG_FIELD));
         assert_eq!(read(&[kind, 0, 0, 1, 0, 0]), Err(WRONG_FIELD));
     }
@@ -48,6 +72,7 @@ fn wrong_values_are_refused() {
 fn wrong_values(row: &Row) -> Vec<Vec<u8>> {
     use Form::*;
     let zeros = |length: usize| vec![0; length];
+    let below = |offset: i64| offset.to_be_bytes().to_vec();
     let size = row.size;
     match row.form {
         U16 | U64 | I16 | I32 | I64 | F64 | Id => vec![zeros(0), zeros(size - 1), zeros(size + 1)],
@@ -56,6 +81,7 @@ fn wrong_values(row: &Row) -> Vec<Vec<u8>> {
         Bytes => Vec::new(),
         Nodes | NodeSet => vec![zeros(1), zeros(7), zeros(9), zeros(8 * size + 1)],
         Ids => vec![zeros(8), zeros(15), zeros(17), zeros(16 * size + 8)],
+        Offset => vec![zeros(0), zeros(7), zeros(9), below(-2), below(i64::MIN)],
         Nested(_) => vec![zeros(0), zeros(2), zeros(3)],
     }
 }

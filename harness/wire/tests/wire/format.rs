@@ -7,7 +7,7 @@ use std::fs;
 
 use krabka_metadata::QuotaEntity;
 use wire::table::{ELEMENTS, Form, KINDS, Presence, Row, Shape, shape};
-use wire::{HEADER, Run, encode};
+use wire::{HEADER, Run, encode, encoded_offset};
 
 use crate::samples;
 
@@ -66,8 +66,9 @@ fn tags_count_from_one() {
 #[test]
 fn filled_records_have_every_field() {
     let mut met = BTreeSet::new();
-    for (kind, (record, _)) in (1..).zip(samples::filled()) {
-        let bytes = encode(&record).unwrap();
+    let filled = samples::filled().into_iter();
+    let filled = filled.map(|(record, _)| encode(&record).unwrap());
+    for (kind, bytes) in (1..).zip(filled.chain([encoded_offset(7)])) {
         assert_eq!(bytes[0], kind);
         walk(shape(kind).unwrap(), &bytes[HEADER..], &mut met);
     }
@@ -99,7 +100,7 @@ fn has_width(form: Form, size: usize, value: &[u8]) -> bool {
         Form::U64 => number(size_of::<u64>()),
         Form::I16 => number(size_of::<i16>()),
         Form::I32 => number(size_of::<i32>()),
-        Form::I64 => number(size_of::<i64>()),
+        Form::I64 | Form::Offset => number(size_of::<i64>()),
         Form::F64 => number(size_of::<f64>()),
         Form::Id => number(size_of::<u128>()),
         Form::Bool | Form::Enum => value.len() == 1 && usize::from(value[0]) < size,

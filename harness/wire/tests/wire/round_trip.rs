@@ -5,7 +5,7 @@ use krabka_metadata::voters::VoterSet;
 use krabka_metadata::*;
 use krabka_security::{KafkaPrincipal, SaslMechanism};
 use wire::table::KINDS;
-use wire::{PAST_THE_END, decode, encode, read};
+use wire::{LOG_OFFSET, PAST_THE_END, decode, encode, read};
 
 use crate::runs::{field, longest, record};
 use crate::samples;
@@ -53,7 +53,7 @@ fn there_and_back(record: &MetadataRecord) {
 fn records_at_every_limit_come_back() {
     let bodies = KINDS.iter().map(|shape| longest(shape.rows, 0));
     let mut most = 0;
-    for (kind, body) in (1..).zip(bodies) {
+    for (kind, body) in (1..LOG_OFFSET).zip(bodies) {
         let bytes = field(kind, &body);
         let (record, used) = decode(&bytes).unwrap();
         assert_eq!(used, bytes.len());

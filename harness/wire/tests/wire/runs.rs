@@ -52,6 +52,7 @@ fn longest_field(row: &Row, place: u8) -> Vec<u8> {
         Nodes => vec![0xFF; row.size * 8],
         NodeSet => (0..row.size as u64).flat_map(u64::to_be_bytes).collect(),
         Ids => vec![0xFF; row.size * 16],
+        Offset => i64::MAX.to_be_bytes().to_vec(),
         Nested(shape) => longest(shape.rows, place),
     };
     field(row.tag, value)

@@ -11,7 +11,7 @@ number-at-requires c κs = search needs
 returns : tie.Need-returns
 returns c =
     let state = c .before .before .before .args .state in
-    ap (λ n. Moved (record { bounds = state .bounds; epoch = n; kraft = state .kraft })) (c .number-at .ensures)
+    ap (λ n. Moved (record { bounds = state .bounds; epoch = n; kraft = state .kraft; offset = state .offset })) (c .number-at .ensures)
 
 pub with-epoch-spec : {M : Type 1} → statement M
 with-epoch-spec = tie.close (tie.spec number-at-requires returns)

@@ -11,7 +11,7 @@ bump-requires c κs = search needs
 returns : tie.Need-returns
 returns c =
     let state = c .before .args .state in
-    ap (λ n. Moved (record { bounds = c .before .args .bounds; epoch = n; kraft = state .kraft })) (c .bump .ensures)
+    ap (λ n. Moved (record { bounds = c .before .args .bounds; epoch = n; kraft = state .kraft; offset = state .offset })) (c .bump .ensures)
 
 pub with-level-spec : {M : Type 1} → statement M
 with-level-spec = tie.close (tie.spec bump-requires returns)

@@ -2,7 +2,7 @@
 use mathlib.Core.Path.{sym}
 use Rattle.model.specs.Kind.{kindOf, kinds}
 use Rattle.shapes.proofs.Bases.{kind-past}
-use Rattle.laws.specs.Refused.{no-kind}
+use Rattle.laws.specs.Refused.{past-arms}
 use Rattle.packing.proofs.kinds.kind_of.Statement.{statement}
 use Rattle.packing.proofs.kinds.kind_of.Tie as tie
 
@@ -111,8 +111,11 @@ unfolding kindOf kinds
 returns-26 c = rw (c .match .keys26)
 
 returns-27 : tie.Need-returns-27
-returns-27 c =
-    sym (kind-past _ (no-kind _ _ (c .match .rest)))
+unfolding kindOf kinds
+returns-27 c = rw (c .match .keys27)
+
+returns-28 : tie.Need-returns-28
+returns-28 c = sym (kind-past _ (past-arms _ 26 _ (c .match .rest)))
 
 pub kind-of-spec : {M : Type 1} → statement M
 kind-of-spec =
@@ -144,4 +147,5 @@ kind-of-spec =
     returns-24
     returns-25
     returns-26
-    returns-27)
+    returns-27
+    returns-28)
