@@ -89,30 +89,39 @@ pub fn is_offset(n: u64) -> bool
     n == MINUS_ONE
 }
 
+// The lower of two numbers.
+fn lower(n: usize, m: usize) -> usize
+    ensures { λ r. ⌜ (r ≤ n) × (r ≤ m) × (n ≤ m → r ≡ n) × (m ≤ n → r ≡ m) ⌝ }
+{
+    if n < m {
+        return n;
+    }
+    m
+}
+
 // The order of two byte strings: byte by byte, a string before its longer continuations.
 pub fn compare(a: &[u8], b: &[u8]) -> Order
     ensures { λ r. ⌜ ordering r ≡ compareBytes (now (a .entry)) (now (b .entry)) ⌝ }
 {
+    let n = a.len();
+    let m = b.len();
+    let both = lower(n, m);
     let mut i = 0;
-    while i < a.len() {
-        if b.len() <= i {
-            return Order::Greater;
-        }
+    while i < both {
         let x = a[i];
         let y = b[i];
-        if x < y {
-            return Order::Less;
-        }
-        if y < x {
-            return Order::Greater;
+        if x != y {
+            return if x < y { Order::Less } else { Order::Greater };
         }
         i += 1;
     }
-    if i < b.len() {
-        Order::Less
-    } else {
-        Order::Equal
+    if n < m {
+        return Order::Less;
     }
+    if m < n {
+        return Order::Greater;
+    }
+    Order::Equal
 }
 
 // Whether two byte strings are the same.
