@@ -3,12 +3,12 @@
  * No call asks anything of the bytes that it is given, and none keeps a
  * pointer. A list goes as a pointer, which is never null, and how many elements
  * it has. A list that is written to overlaps no other one. A number that goes
- * to value[0] or place[0] is lost where that list has no element.
+ * to value[0], values[1] or place[0] is lost where that list has no such element.
  *
  * Where nothing else is said, an answer is packed: a refusal's number, 0 where
  * there is none, times 2^32, plus a value: the bytes used or written, or a
- * count. A call that refuses leaves its lists as they were; only Restore, where
- * it refuses a record, writes: see there.
+ * count. A call that refuses leaves its lists as they were; only Restore and the
+ * two calls on a snapshot's forms, where they refuse a record, write: see there.
  *
  * No memory is taken but the stack. A thread needs at most 384 KB of it for
  * jeghatuf_apply and jeghatuf_restore, 16 KB for jeghatuf_read, jeghatuf_write
@@ -71,6 +71,21 @@ uint64_t jeghatuf_snapshot(const uint8_t *image, size_t image_len, uint8_t *out,
  * Where the buffer has no capacity for an image (1), both stay as they were. */
 uint64_t jeghatuf_restore(uint8_t *image, size_t image_len, const uint8_t *input, size_t input_len,
                           uint64_t *place, size_t place_len);
+
+/* A snapshot's two forms. The old one has the records alone; the new one starts
+ * with the log offset, an int64_t by its bits. The value of both calls is 0, since
+ * a run may be longer than 2^32 bytes. Where a record is refused, the first
+ * element of the last list gets the byte that it begins at. */
+
+/* Writes the new form of a run of the old one. value[0] gets the bytes written:
+ * 14 more than the run has. */
+uint64_t jeghatuf_with_offset(const uint8_t *run, size_t run_len, uint64_t offset, uint8_t *out, size_t out_len,
+                              uint64_t *value, size_t value_len);
+
+/* Writes the old form of a run of the new one. values[0] gets the bytes written,
+ * values[1] the log offset. */
+uint64_t jeghatuf_without_offset(const uint8_t *run, size_t run_len, uint8_t *out, size_t out_len,
+                                 uint64_t *values, size_t values_len);
 
 /* Writes the records that take an image to a metadata level, an int16_t by its
  * bits. The bytes written. */

@@ -5,7 +5,7 @@ use mathlib.Core.List.{List, [], _∷_}
 use Prim.Native.Nat.{ℕ, _+_, _*_}
 use native.Mathlib.Omega.{arith}
 use Rattle.model.specs.Reply.{Reply}
-use Rattle.model.specs.Answers.{numberReply, valued, rating, restoreReply}
+use Rattle.model.specs.Answers.{numberReply, valued, rating, restoreReply, runReply, separateReply}
 use Rattle.model.specs.declared.answers.Value.{Value}
 use Rattle.model.specs.declared.answers.Value.the-variants.{Is, Refused}
 use Rattle.model.specs.declared.answers.Rated.{Rated}
@@ -13,7 +13,11 @@ use Rattle.model.specs.declared.answers.Rated.the-variants as rated
 use Rattle.model.specs.declared.answers.Rated.the-variants.{Rate, None}
 use Rattle.model.specs.declared.answers.Restored.{Restored}
 use Rattle.model.specs.declared.answers.Restored.the-variants as end
-use Rattle.packing.specs.Packed.{packed, firstIs, counted, widened}
+use Rattle.model.specs.declared.answers.RunAnswer.{RunAnswer}
+use Rattle.model.specs.declared.answers.RunAnswer.the-variants as run
+use Rattle.model.specs.declared.answers.Separated.{Separated}
+use Rattle.model.specs.declared.answers.Separated.the-variants as separation
+use Rattle.packing.specs.Packed.{packed, firstIs, filled, counted, widened}
 
 -- a number alone
 pub packed-number : {n x : ℕ} {r : Reply} → x ≡ n * 4294967296 → numberReply n ≡ r → x ≡ packed r
@@ -69,3 +73,39 @@ module _ {v : Restored} {r : Reply} (e : restoreReply v ≡ r) where
 
   pub restore-stopped : {n at x : ℕ} {m : List ℕ} → v ≡ end.Stopped n at → x ≡ n * 4294967296 → (l : List ℕ) → m ≡ firstIs (at ∷ []) l → (x ≡ r .number * 4294967296) × (m ≡ widened r l)
   restore-stopped {n} {at} h q l p = rw (← ended-as (end.Stopped n at) h) (q, p)
+
+-- a conversion's end: its number, and the bytes written or a record's place
+module _ {v : RunAnswer} {r : Reply} (e : runReply v ≡ r) where
+  answered-as : (w : RunAnswer) → v ≡ w → runReply w ≡ r
+  answered-as w h = ap runReply (sym h) ∙ e
+
+  pub run-written : {n : ℕ} {m : List ℕ} → v ≡ run.Written n → (l : List ℕ) → m ≡ firstIs (n ∷ []) l → (0 ≡ r .number * 4294967296) × (m ≡ widened r l)
+  run-written {n} h l p = rw (← answered-as (run.Written n) h) (refl, p)
+
+  pub run-refused : {n x : ℕ} → v ≡ run.Refused n → x ≡ n * 4294967296 → (l : List ℕ) → (x ≡ r .number * 4294967296) × (l ≡ widened r l)
+  run-refused {n} h q l = rw (← answered-as (run.Refused n) h) (q, refl)
+
+  pub run-stopped : {n at x : ℕ} {m : List ℕ} → v ≡ run.Stopped n at → x ≡ n * 4294967296 → (l : List ℕ) → m ≡ firstIs (at ∷ []) l
+      → (x ≡ r .number * 4294967296) × (m ≡ widened r l)
+  run-stopped {n} {at} h q l p = rw (← answered-as (run.Stopped n at) h) (q, p)
+
+-- one value fills as it stands first
+one-filled : (n : ℕ) (l : List ℕ) → firstIs (n ∷ []) l ≡ filled (n ∷ []) l
+one-filled n [] = refl
+one-filled n (x ∷ l) = refl
+
+-- the same with two values
+module _ {v : Separated} {r : Reply} (e : separateReply v ≡ r) where
+  separated-as : (w : Separated) → v ≡ w → separateReply w ≡ r
+  separated-as w h = ap separateReply (sym h) ∙ e
+
+  pub separate-written : {n o : ℕ} {m : List ℕ} → v ≡ separation.Written n o → (l : List ℕ) → m ≡ filled (n ∷ o ∷ []) l
+      → (0 ≡ r .number * 4294967296) × (m ≡ filled (r .values) l)
+  separate-written {n} {o} h l p = rw (← separated-as (separation.Written n o) h) (refl, p)
+
+  pub separate-refused : {n x : ℕ} → v ≡ separation.Refused n → x ≡ n * 4294967296 → (l : List ℕ) → (x ≡ r .number * 4294967296) × (l ≡ filled (r .values) l)
+  separate-refused {n} h q l = rw (← separated-as (separation.Refused n) h) (q, refl)
+
+  pub separate-stopped : {n at x : ℕ} {m : List ℕ} → v ≡ separation.Stopped n at → x ≡ n * 4294967296 → (l : List ℕ) → m ≡ firstIs (at ∷ []) l
+      → (x ≡ r .number * 4294967296) × (m ≡ filled (r .values) l)
+  separate-stopped {n} {at} h q l p = rw (← separated-as (separation.Stopped n at) h) (q, p ∙ one-filled at l)

@@ -14,6 +14,7 @@ use Rattle.model.specs.Image.{openOf}
 use Rattle.model.specs.Validate.{validateOf}
 use Rattle.model.specs.Apply.{applyOf}
 use Rattle.model.specs.Snapshot.{snapshotOf, restoreOf}
+use Rattle.model.specs.Convert.{withOffsetOf, withoutOffsetOf}
 use Rattle.model.specs.Lookup.{topicByName, topicById, partitionOf, brokerOf, epochOf, offsetOf, shortOf, freezeOf, throttleOf}
 use Rattle.model.specs.Downgrade.{downgradeOf}
 use Rattle.model.specs.declared.Kind.{Kind}
@@ -39,10 +40,12 @@ pub record Unpacked : Type 0 where
   pub jeghatuf-downgrade : (image : Bytes) (level : ℕ) (out : Bytes) → AreBytes image → PackedBack (downgradeOf image level out .reply)
   -- how many values came: the value itself is in the lent list
   pub jeghatuf-throttle : (image : Bytes) (node kind : ℕ) → CountedBack (throttleOf image node kind)
-  -- a number alone: the value is in the lent list
+  -- a number alone: the values are in the lent list
   pub jeghatuf-features-epoch : (image : Bytes) → AloneBack (epochOf image)
   pub jeghatuf-log-offset : (image : Bytes) → AloneBack (offsetOf image)
   pub jeghatuf-restore : (input image : Bytes) → AloneBack (restoreOf input image .reply)
+  pub jeghatuf-with-offset : (run : Bytes) (offset : ℕ) (out : Bytes) → AloneBack (withOffsetOf run offset out .reply)
+  pub jeghatuf-without-offset : (run out : Bytes) → AloneBack (withoutOffsetOf run out .reply)
 
 -- a number of no kind is a refusal, which has no value
 write-number-below : (kind : ℕ) (tags : Bytes) (lengths : List ℕ) (values out : Bytes) → Below (writeOfNumber kind tags lengths values out .reply)
@@ -73,4 +76,6 @@ unpacked = record {
   jeghatuf-features-epoch = λ image. alone-undone (epochOf image);
   jeghatuf-log-offset = λ image. alone-undone (offsetOf image);
   jeghatuf-restore = λ input image. alone-undone (restoreOf input image .reply);
+  jeghatuf-with-offset = λ run offset out. alone-undone (withOffsetOf run offset out .reply);
+  jeghatuf-without-offset = λ run out. alone-undone (withoutOffsetOf run out .reply);
 }

@@ -11,6 +11,7 @@
 --   no replica list that is read has a repeat ............. Apart.read-apart
 --   Read and Write undo each other ........................ Writes.write-read, Writes.read-back; outputs: Emits
 --   records back to back .................................. Items.items-records, Items.spells-items
+--   in a snapshot: kind 26, and records of the log ........ Framed.logged-no-offset, Framed.framed-got, Framed.offset-read
 pub mod Halves
 pub mod Runs
 pub mod Fields
@@ -27,3 +28,4 @@ pub mod Stored
 pub mod Emits
 pub mod Writes
 pub mod Items
+pub mod Framed

@@ -1,7 +1,7 @@
 -- Records applied in order, and what a run of them restores: kind 26, then records that all apply.
 use mathlib.Core.Path.{_≡_, refl, sym, _∙_, ap}
 use mathlib.Core.List.{List, [], _∷_, _++_, append-nil}
-use mathlib.Core.Bool.{Bool, true, false, cond}
+use mathlib.Core.Bool.{true}
 use Prim.Native.Nat.{ℕ, _+_}
 use native.Mathlib.Omega.{arith}
 use native.Mathlib.Nat.{add-zero}
@@ -10,20 +10,18 @@ use Rattle.model.specs.Choice.{joined}
 use Rattle.model.specs.Number.{Bytes, isOffset}
 use Rattle.model.specs.Run.{field}
 use Rattle.model.specs.Kind.{kindNumber}
-use Rattle.model.specs.Shape.{logged, framed, fault}
+use Rattle.model.specs.Shape.{logged, framed}
 use Rattle.model.specs.Record.{Rec, recordBytes}
 use Rattle.model.specs.Items.{Items, itemsFrom, itemsOf}
 use Rattle.model.specs.Reply.{accepted}
 use Rattle.model.specs.Contents.{Contents, fresh, dated}
 use Rattle.model.specs.Apply.{Applied, stays, becomes, apply}
-use Rattle.model.specs.Snapshot.{stopped, onApplied, offsetRec, isOffsetRec, replay, replayRun}
+use Rattle.model.specs.Snapshot.{stopped, onApplied, offsetRec, replay, replayRun}
 use Rattle.laws.specs.Choice.{impossible}
-use Rattle.laws.specs.Lists.{all-imp}
 use Rattle.laws.specs.Numbers.{number-bytes}
 use Rattle.laws.specs.Offsets.{offset-span}
-use Rattle.laws_records.specs.Faults.{fault-known}
-use Rattle.laws_records.specs.Stored.{logged-framed}
 use Rattle.laws_records.specs.Items.{AllPass, placed, items-record, items-append}
+use Rattle.laws_records.specs.Framed.{logged-no-offset, framed-pass}
 use Rattle.laws_image.specs.Snapshot.{offset-passes}
 
 -- each record applied to what the ones before it made, up to the first that stays
@@ -60,20 +58,12 @@ module _ (capacity : ℕ) where
 
   -- 2. Places
 
-  -- a logged record is not of kind 26
-  no-offset : (r : Rec) → fault logged (r .kind) (r .run) ≡ 0 → isOffsetRec r ≡ false
-  no-offset r ok = go (isOffsetRec r) (fault-known logged (r .kind) (r .run) ok)
-    where
-      go : (b : Bool) → _≡_ {A = ℕ} (cond b 3 0) 0 → b ≡ false
-      go true h = absurd (omega arith)
-      go false h = refl
-
   pub replay-placed : (rs : List Rec) (place : ℕ) (rest : ℕ → Items) (c d : Contents) → AllPass logged rs → replayRecords capacity rs c ≡ becomes d
       → replay capacity (placed place rs rest) c ≡ replay capacity (rest (place + length (joined recordBytes rs))) d
   unfolding replayRecords replay
   replay-placed [] place rest c d ok e = let q : c ≡ d = cc in rw (q, add-zero)
   replay-placed (r ∷ rs) place rest c d ok e =
-      rw (no-offset r (ok .0)) (go (apply capacity r c) e (λ x. replay-placed rs (place + length (recordBytes r)) rest x d (ok .1)))
+      rw (logged-no-offset r (ok .0)) (go (apply capacity r c) e (λ x. replay-placed rs (place + length (recordBytes r)) rest x d (ok .1)))
     where
       next : ℕ
       next = place + length (recordBytes r)
@@ -90,11 +80,6 @@ module _ (capacity : ℕ) where
       go (becomes x) q i = i x q ∙ rw ends
 
   -- 3. Bytes, as a snapshot has them
-
-  framed-pass : (rs : List Rec) → AllPass logged rs → AllPass framed rs
-  framed-pass rs ok =
-      all-imp (λ (r : Rec). fault logged (r .kind) (r .run) ≡ 0) (λ (r : Rec). fault framed (r .kind) (r .run) ≡ 0)
-      (λ r p. logged-framed (r .kind) (r .run) p) rs ok
 
   -- records that apply, and whatever bytes follow them
   pub replay-bytes : (place : ℕ) (rs : List Rec) (s : Bytes) (c d : Contents) → AllPass logged rs → replayRecords capacity rs c ≡ becomes d

@@ -11,6 +11,10 @@ use Rattle.model.specs.declared.answers.Rated.{Rated}
 use Rattle.model.specs.declared.answers.Rated.the-variants.{Rate, None, Refused as NoRate}
 use Rattle.model.specs.declared.answers.Restored.{Restored}
 use Rattle.model.specs.declared.answers.Restored.the-variants.{Done, Refused as NotDone, Stopped}
+use Rattle.model.specs.declared.answers.RunAnswer.{RunAnswer}
+use Rattle.model.specs.declared.answers.RunAnswer.the-variants.{Written, Refused as NotWritten, Stopped as NotRead}
+use Rattle.model.specs.declared.answers.Separated.{Separated}
+use Rattle.model.specs.declared.answers.Separated.the-variants.{Written as Both, Refused as Neither, Stopped as NotSeparated}
 
 -- Open, Validate, Apply: a number alone, 0 where it is accepted
 abbrev pub numberReply : ℕ → Reply
@@ -37,3 +41,14 @@ abbrev pub restoreReply : Restored → Reply
 restoreReply Done = accepted []
 restoreReply (NotDone n) = refused n
 restoreReply (Stopped n at) = record { number = n; values = at ∷ [] }
+
+-- a run of records: the bytes written, or a record's refusal "with the place as in Restore"; then the same with an offset beside the bytes
+abbrev pub runReply : RunAnswer → Reply
+runReply (Written n) = accepted (n ∷ [])
+runReply (NotWritten n) = refused n
+runReply (NotRead n at) = record { number = n; values = at ∷ [] }
+
+abbrev pub separateReply : Separated → Reply
+separateReply (Both n offset) = accepted (n ∷ offset ∷ [])
+separateReply (Neither n) = refused n
+separateReply (NotSeparated n at) = record { number = n; values = at ∷ [] }

@@ -40,6 +40,7 @@
 --   8, equal entity types in one order .................... Contents.entityOrder, entitiesInOrder; Quotas.QuotasMeet, OneGroup, LaterStands
 --   5, the image knows its place in the log ............... Contents.dated, Image.header, Apply.applyAt, Snapshot.offsetRec, replayRun,
 --                                                           Lookup.offsetOf; History.CutsUnseen: cut histories agree on it; OffsetOfLast
+--   6, snapshots from last season ......................... Convert.withOffsetOf, withoutOffsetOf, OldNewOld, NewOldNew
 pub mod Choice
 pub mod Number
 pub mod Text
@@ -64,3 +65,4 @@ pub mod Quotas
 pub mod Lookup
 pub mod Downgrade
 pub mod History
+pub mod Convert

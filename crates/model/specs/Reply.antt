@@ -2,7 +2,7 @@
 use Prim.Native.Nat.{ℕ}
 use mathlib.Core.Bool.{cond}
 use mathlib.Core.List.{List, [], _∷_, _++_}
-use lib.Dec.{leb}
+use lib.Dec.{leb, eqb}
 use lib.ListN.{length, drop}
 use Rattle.model.specs.Number.{Bytes}
 
@@ -28,3 +28,7 @@ unchanged n b = record { reply = refused n; buffer = b }
 -- "success writes a prefix of the output and leaves the rest"; it says how many bytes it wrote. "19, output too short"
 unfoldable pub emitBytes : Bytes → Bytes → Ended
 emitBytes s out = cond (leb (length s) (length out)) (record { reply = accepted (length s ∷ []); buffer = s ++ drop (length s) out }) (unchanged 19 out)
+
+-- further values, where the operation is accepted
+abbrev pub alsoSays : List ℕ → Ended → Ended
+alsoSays vs e = record { reply = cond (eqb (e .reply .number) 0) (accepted (e .reply .values ++ vs)) (e .reply); buffer = e .buffer }

@@ -35,6 +35,10 @@ lengths rs = total (λ r. length (recordBytes r)) rs
 abbrev pub offsetRec : ℕ → Rec
 offsetRec n = rec LogOffset (item 1 (bytes 8 n) done)
 
+-- how many bytes it has
+abbrev pub offsetSize : ℕ
+offsetSize = 14
+
 abbrev pub isOffsetRec : Rec → Bool
 isOffsetRec r = eqb (kindNumber (r .kind)) 26
 

@@ -25,3 +25,17 @@ pub enum Restored {
     Refused(u8),
     Stopped(u8, usize),
 }
+
+// Bytes written, a refusal, or a record's refusal with the place of its first byte.
+pub enum RunAnswer {
+    Written(usize),
+    Refused(u8),
+    Stopped(u8, usize),
+}
+
+// The same, with the log offset beside the bytes written.
+pub enum Separated {
+    Written(usize, u64),
+    Refused(u8),
+    Stopped(u8, usize),
+}

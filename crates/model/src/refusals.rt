@@ -55,8 +55,11 @@ pub const REPEATED: u8 = 20;
 // Apply: a log offset not above the stored one, directly after Read's.
 pub const NOT_LATER: u8 = 21;
 
-// Restore: the log offset is missing at the start or stands later, directly after that record's Read's.
+// Restore, and a snapshot of the new form: the log offset is missing at the start or stands later, directly after that record's Read's.
 pub const MISPLACED_OFFSET: u8 = 22;
+
+// A snapshot of the old form: the offset that it is given is below -1.
+pub const OFFSET_TOO_LOW: u8 = 23;
 
 // Validate: a topic's name that is unlawful, after Read's and before 6.
 pub const UNLAWFUL_NAME: u8 = 24;

@@ -1,4 +1,4 @@
--- A reply in one number, and a value that is too wide for that: it goes to the first place of a lent list.
+-- A reply in one number, and values that are too wide for that: they go to the first places of a lent list.
 use mathlib.Core.List.{List, [], _∷_}
 use Prim.Native.Nat.{ℕ, _+_, _*_, _/_, _%_}
 use lib.ListN.{length}
@@ -23,6 +23,12 @@ firstIs (v ∷ vs) (x ∷ l) = v ∷ l
 
 abbrev pub widened : Reply → List ℕ → List ℕ
 widened r l = firstIs (r .values) l
+
+-- as many values as a list has places for, from the first on
+abbrev pub filled : List ℕ → List ℕ → List ℕ
+filled [] l = l
+filled (v ∷ vs) [] = []
+filled (v ∷ vs) (x ∷ l) = v ∷ filled vs l
 
 -- how many values come with a number, where there may be none
 abbrev pub counted : Reply → ℕ

@@ -7,7 +7,7 @@ ghost use mathlib.Core.List.{[], _∷_};
 ghost use mathlib.Core.Path.{_≡_};
 ghost use Prim.Native.Nat.{_*_};
 ghost use Rattle.model.specs.Answers.{replied};
-ghost use Rattle.packing.specs.Packed.{packed, firstIs};
+ghost use Rattle.packing.specs.Packed.{packed, firstIs, filled};
 
 // A number with which no value comes.
 pub fn alone(number: u8) -> u64
@@ -32,5 +32,15 @@ pub fn put_first(list: &mut [u64], n: u64)
 {
     if list.len() > 0 {
         list[0] = n;
+    }
+}
+
+// Puts two numbers into the first two places of a list, where it has them.
+pub fn put_both(list: &mut [u64], first: u64, second: u64)
+    ensures { λ _. ⌜ now (list .exit) ≡ filled (first ∷ second ∷ []) (now (list .entry)) ⌝ }
+{
+    put_first(list, first);
+    if list.len() > 1 {
+        list[1] = second;
     }
 }

@@ -31,3 +31,7 @@ putAt out at s = take at out ++ s ++ drop (at + length s) out
 -- what a record and a field begin with: a byte, and a length of two bytes
 abbrev pub head : ℕ → ℕ → Bytes
 head first n = first ∷ bytes 2 n
+
+-- a record whose one field is a number
+abbrev pub numberBytes : ℕ → ℕ → ℕ → Bytes
+numberBytes kind width n = head kind (3 + width) ++ head 1 width ++ bytes width n

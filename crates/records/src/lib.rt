@@ -27,7 +27,7 @@ ghost use Rattle.model.specs.Record.{read as readFrom, readOf, beginsApart, gat
 ghost use Rattle.laws_records.specs.Runs.{Whole};
 ghost use Rattle.shapes.specs.Table.{table, kindBase};
 ghost use Rattle.model.specs.Answers.{replied};
-ghost use Rattle.records.specs.Answers.{gotReply, sourceOf, bodyLength, putAt, head};
+ghost use Rattle.records.specs.Answers.{gotReply, sourceOf, bodyLength, putAt, head, numberBytes};
 
 // Where a record stands: in the log, as Validate and Apply are given it; in an image, whose topics have one field more; or by itself and in a
 // snapshot, which may start with the log offset.
@@ -167,6 +167,17 @@ pub fn put_field(out: &mut [u8], at: usize, tag: u8, v: &[u8])
 {
     put_head(out, at, tag, v.len());
     wire::copy(out, at + 3, v);
+}
+
+// Writes a record of a kind whose one field is a number. Where it ends.
+pub fn put_number(out: &mut [u8], at: usize, kind: u8, width: usize, n: u64) -> usize
+    requires { ⌜ (width ≤ 8) × (at + 6 + width ≤ length (now out)) ⌝ }
+    ensures { λ r. ⌜ (r ≡ at + 6 + width) × (now (out .exit) ≡ putAt (now (out .entry)) at (numberBytes kind width n)) ⌝ }
+{
+    put_head(out, at, kind, 3 + width);
+    put_head(out, at + 3, 1, width);
+    wire::put(out, at + 6, width, n);
+    at + 6 + width
 }
 
 // Writes the fields of three lists at `at`, one after the other.

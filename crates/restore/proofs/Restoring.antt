@@ -20,6 +20,7 @@ use Rattle.model.specs.Snapshot.{Replayed, stopped, onApplied, replay, restoreO
 use Rattle.laws.specs.Choice.{impossible}
 use Rattle.laws_records.specs.Records.{reads}
 use Rattle.laws_records.specs.Items.{items-got}
+use Rattle.laws_records.specs.Framed.{logged-no-offset, framed-got}
 use Rattle.laws_image.specs.Tests.{capacity-least}
 use Rattle.laws_image.specs.Fits.{dated-fits}
 use Rattle.laws_image.specs.Open.{fresh-fits}
@@ -31,7 +32,7 @@ use Rattle.apply_work.specs.Work.{Good, stateIn}
 use Rattle.restore_copy.specs.Rebuild.{Rebuilt}
 use Rattle.apply_step.specs.Step.{Holding, outcome, StillHolding}
 use Rattle.records.specs.Answers.{gotReply}
-use Rattle.restore.proofs.Framed.{logged-no-offset, framed-got, begun-offset, run-got}
+use Rattle.restore.proofs.Framed.{begun-offset, run-got}
 use Rattle.restore.specs.Restore.{replayed, BegunAs, freshAt, EndsBy, NextIs, Reached, wholeContents, Whole, RanAs}
 use Rattle.apply_work.specs.declared.State.{State}
 use Rattle.apply_work.specs.declared.Tried.{Tried}

@@ -14,14 +14,14 @@ use Rattle.model.specs.Record.{recordBytes}
 use Rattle.model.specs.Contents.{returned}
 use Rattle.model.specs.Image.{headSize, entryOf, fixedIn, contentsOf, isImage}
 use Rattle.model.specs.Reply.{Reply, accepted, refused, emitBytes}
-use Rattle.model.specs.Snapshot.{lengths, epochRecords, kraftRecords, trail, body, snapshot, emit, snapshotOf}
+use Rattle.model.specs.Snapshot.{offsetSize, lengths, epochRecords, kraftRecords, trail, body, snapshot, emit, snapshotOf}
 use Rattle.laws.specs.Numbers.{take-are-bytes, drop-are-bytes}
 use Rattle.laws.specs.Lists.{joined-append, joined-map, map-map, total-append, length-joined}
 use Rattle.records.specs.Answers.{putAt}
 use Rattle.entries.specs.Entries.{recordsIn}
 use Rattle.find.specs.Reals.{Reals}
 use Rattle.find.proofs.Lent.{lent-entries, lent-kept, lent-held}
-use Rattle.snapshot.specs.Returned.{returnedRecords, returnedIn, offsetSize, firstRecords, epochIn, kraftIn, offsetBytes, epochBytes, kraftBytes}
+use Rattle.snapshot.specs.Returned.{returnedRecords, returnedIn, firstRecords, epochIn, kraftIn, offsetBytes, epochBytes, kraftBytes}
 use Rattle.snapshot.proofs.Totals.{lengths-returned, returned-low}
 use Rattle.snapshot.proofs.Trails.{offset-long, epoch-most, kraft-most}
 use Rattle.records.proofs.Growing.{Growing, grow-start, part-fits, rest-fits, grow, grown}

@@ -23,8 +23,8 @@ use Rattle.find.proofs.Puts.{length-returned}
 use Rattle.find.proofs.Records.{record-returned}
 use Rattle.find.specs.Found.{AllKept}
 use Rattle.find.proofs.Finds.{entire}
-use Rattle.model.specs.Snapshot.{lengths}
-use Rattle.snapshot.specs.Returned.{returnedRecords, returnedIn, returnedAt, Behind, offsetSize}
+use Rattle.model.specs.Snapshot.{offsetSize, lengths}
+use Rattle.snapshot.specs.Returned.{returnedRecords, returnedIn, returnedAt, Behind}
 use Rattle.snapshot.proofs.Totals.{lengths-returned, size-low, here-bytes}
 use Rattle.records.proofs.Growing.{Growing, grow-start, part-fits, grow, grown}
 

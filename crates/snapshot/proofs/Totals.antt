@@ -12,7 +12,7 @@ use Rattle.model.specs.Shape.{stored}
 use Rattle.model.specs.Record.{Rec, recordBytes}
 use Rattle.model.specs.Contents.{returned}
 use Rattle.model.specs.Image.{entryOf}
-use Rattle.model.specs.Snapshot.{lengths}
+use Rattle.model.specs.Snapshot.{offsetSize, lengths}
 use Rattle.laws.specs.Lists.{map-append, total-append, total-map, length-joined}
 use Rattle.laws_records.specs.Items.{AllPass}
 use Rattle.entries.specs.Entries.{recordsIn, recordIn, Entries}
@@ -24,7 +24,7 @@ use Rattle.find.specs.Returned.{flagSize, returnedSize, returnedBytes}
 use Rattle.find.proofs.Puts.{length-returned}
 use Rattle.find.proofs.Records.{record-returned}
 use Rattle.find.proofs.Finds.{entire}
-use Rattle.snapshot.specs.Returned.{returnedRecords, returnedIn, returnedAt, Behind, offsetSize}
+use Rattle.snapshot.specs.Returned.{returnedRecords, returnedIn, returnedAt, Behind}
 
 -- the sum of the entries' records' lengths is the length of their bytes
 pub lengths-returned : (s : Bytes) → lengths (returnedRecords s) ≡ length (returnedIn s)

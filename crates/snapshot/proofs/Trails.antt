@@ -1,47 +1,25 @@
 -- The records of the fixed parts.
 use mathlib.Core.Path.{_≡_, refl, sym, ap, _∙_}
-use mathlib.Core.List.{List, [], _++_, append-assoc}
+use mathlib.Core.List.{List, []}
 use mathlib.Core.Bool.{Bool, true, false}
 use Prim.Native.Nat.{ℕ, zero, suc, _+_, _≤_, _<_}
 use native.Mathlib.Omega.{arith}
 use borrow.Author.Tests.{lt-leb, le-leb, leb-true, leb-false, ne-eqb}
 use lib.Dec.{leb}
-use lib.ListN.{length, take, drop}
+use lib.ListN.{length}
 use Rattle.model.specs.Choice.{joined}
-use Rattle.model.specs.Number.{Bytes, bytes, half}
+use Rattle.model.specs.Number.{Bytes, half}
 use Rattle.model.specs.Run.{bytesOf}
 use Rattle.model.specs.Kind.{kindNumber}
 use Rattle.model.specs.Record.{Rec, recordBytes}
-use Rattle.model.specs.Snapshot.{lengths, epochRecords, kraftRecords}
-use Rattle.laws.specs.Numbers.{length-bytes}
+use Rattle.model.specs.Snapshot.{offsetSize, lengths, epochRecords, kraftRecords}
 use Rattle.laws.specs.Lists.{length-joined}
-use Rattle.records.specs.Answers.{putAt, head}
-use Rattle.records.proofs.Written.{put-at-nothing, put-at-append}
-use Rattle.snapshot.specs.Returned.{offsetSize, numberBytes, offsetBytes, epochBytes, kraftBytes}
+use Rattle.records.specs.Answers.{putAt, numberBytes}
+use Rattle.records.proofs.Written.{put-at-nothing}
+use Rattle.records.proofs.Numbers.{length-number, offset-number}
+use Rattle.snapshot.specs.Returned.{offsetBytes, epochBytes, kraftBytes}
 
--- 1. One number
-
-pub number-written : (out : Bytes) (at kind width n : ℕ) → at + 6 + width ≤ length out → {a b c : Bytes} → a ≡ putAt out at (head kind (3 + width))
-    → b ≡ putAt a (at + 3) (head 1 width) → c ≡ take (at + 6) b ++ bytes width n ++ drop (at + 6 + width) b → c ≡ putAt out at (numberBytes kind width n)
-number-written out at kind width n fits {a} {b} {c} ea eb ec =
-    let first : b ≡ putAt out at (head kind (3 + width) ++ head 1 width) =
-    eb ∙ rw ea (put-at-append out at (head kind (3 + width)) (omega arith) (head 1 width)) in
-    let six : at + 6 ≡ at + length (head kind (3 + width) ++ head 1 width) = omega arith in
-    ec
-    ∙ ap (λ k. take (at + 6) b ++ bytes width n ++ drop (at + 6 + k) b) (sym (length-bytes width n))
-    ∙ ap (λ x. putAt x (at + 6) (bytes width n)) first
-    ∙ ap (λ x. putAt (putAt out at (head kind (3 + width) ++ head 1 width)) x (bytes width n)) six
-    ∙ put-at-append out at (head kind (3 + width) ++ head 1 width) (omega arith) (bytes width n)
-    ∙ ap (putAt out at) (append-assoc (head kind (3 + width)) (head 1 width) (bytes width n))
-
-pub length-number : (kind width n : ℕ) → length (numberBytes kind width n) ≡ 6 + width
-length-number kind width n = omega (arith, length-bytes width n)
-
--- 2. The log offset
-
-pub offset-number : (n : ℕ) → offsetBytes n ≡ numberBytes 26 8 n
-unfolding recordBytes bytesOf kindNumber
-offset-number n = refl
+-- 1. The log offset
 
 pub offset-long : (n : ℕ) → length (offsetBytes n) ≡ offsetSize
 offset-long n = ap length (offset-number n) ∙ length-number 26 8 n
@@ -50,7 +28,7 @@ pub offset-written : (out : Bytes) (offset : ℕ) {n r : ℕ} {w : Bytes} → n 
     → (r ≡ offsetSize) × (w ≡ putAt out 0 (offsetBytes offset))
 offset-written out offset e h = (h .0, h .1 ∙ ap (λ n. putAt out 0 (numberBytes 26 8 n)) e ∙ ap (putAt out 0) (sym (offset-number offset)))
 
--- 3. The epoch, unless it is negative
+-- 2. The epoch, unless it is negative
 
 pub epoch-some : (e : ℕ) → e < half 8 → epochBytes e ≡ numberBytes 13 8 e
 unfolding epochRecords recordBytes bytesOf kindNumber
@@ -67,7 +45,7 @@ epoch-most e = go (leb (half 8) e) refl
     go true h = omega (arith, ap length (epoch-none e (leb-true (half 8) e h)))
     go false h = omega (arith, ap length (epoch-some e (leb-false (half 8) e h)), length-number 13 8 e)
 
--- 4. The kraft version, unless it is 0
+-- 3. The kraft version, unless it is 0
 
 pub kraft-some : (v : ℕ) → (v ≡ 0 → ⊥) → kraftBytes v ≡ numberBytes 10 2 v
 unfolding kraftRecords recordBytes bytesOf kindNumber
@@ -81,7 +59,7 @@ pub kraft-most : (v : ℕ) → length (kraftBytes v) ≤ 8
 kraft-most zero = omega (arith, ap length (kraft-none 0 refl))
 kraft-most (suc v) = omega (arith, ap length (kraft-some (suc v) (λ e. omega (arith, e))), length-number 10 2 (suc v))
 
--- 5. A record of the fixed parts behind the others, where there is one
+-- 4. A record of the fixed parts behind the others, where there is one
 
 module _ (rs : List Rec) (out : Bytes) (before : ℕ) where
   pub number-fits : (kind width n : ℕ) → joined recordBytes rs ≡ numberBytes kind width n → before + lengths rs ≤ length out → before + 6 + width ≤ length out

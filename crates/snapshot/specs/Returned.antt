@@ -4,12 +4,11 @@ use mathlib.Core.List.{List, [], _∷_, _++_, map}
 use Prim.Native.Nat.{ℕ, _+_, _-_, _≤_}
 use lib.ListN.{length, take, drop}
 use Rattle.model.specs.Choice.{joined}
-use Rattle.model.specs.Number.{Bytes, bytes}
+use Rattle.model.specs.Number.{Bytes}
 use Rattle.model.specs.Record.{Rec, recordBytes}
 use Rattle.model.specs.Contents.{kept, returned}
 use Rattle.model.specs.Image.{entryOf, fixedIn, contentsOf}
 use Rattle.model.specs.Snapshot.{offsetRec, epochRecords, kraftRecords}
-use Rattle.records.specs.Answers.{head}
 use Rattle.entries.specs.Entries.{recordsIn, IsRecord, recordIn}
 
 -- 1. The entries' records
@@ -35,9 +34,6 @@ pub record Behind (s : Bytes) (start end : ℕ) : Type 0 where
 
 -- 2. The records of an image: its log offset's, its entries', and behind them those of the epoch and the kraft version
 
-abbrev pub offsetSize : ℕ
-offsetSize = 14
-
 abbrev pub firstRecords : Bytes → List Rec
 firstRecords image = offsetRec (fixedIn image .offset) ∷ map returned (contentsOf image .real)
 
@@ -46,10 +42,6 @@ epochIn image = epochRecords (fixedIn image .epoch)
 
 abbrev pub kraftIn : Bytes → List Rec
 kraftIn image = kraftRecords (fixedIn image .kraft)
-
--- a record whose one field is a number
-abbrev pub numberBytes : ℕ → ℕ → ℕ → Bytes
-numberBytes kind width n = head kind (3 + width) ++ head 1 width ++ bytes width n
 
 -- the bytes of the fixed parts' records
 abbrev pub offsetBytes : ℕ → Bytes

@@ -15,7 +15,7 @@ use model::kinds::KRAFT_VERSION;
 use model::kinds::LOG_OFFSET;
 use model::refusals::NO_IMAGE;
 use model::refusals::TOO_SHORT;
-use records::put_head;
+use records::put_number;
 ghost use mathlib.Core.Path.{_≡_};
 ghost use mathlib.Core.Bool.{true};
 ghost use mathlib.Core.List.{_++_};
@@ -25,13 +25,13 @@ ghost use lib.ListN.{length, take};
 ghost use Rattle.model.specs.Choice.{joined};
 ghost use Rattle.model.specs.Record.{recordBytes};
 ghost use Rattle.model.specs.Image.{headSize, fixedIn, isImage, contentsOf};
-ghost use Rattle.model.specs.Snapshot.{lengths, snapshot as snapshotRecords, emit, snapshotOf};
+ghost use Rattle.model.specs.Snapshot.{offsetSize, lengths, snapshot as snapshotRecords, emit, snapshotOf};
 ghost use Rattle.model.specs.Answers.{replied};
 ghost use Rattle.records.specs.Answers.{putAt};
 ghost use Rattle.entries.specs.Entries.{recordsIn, Entries};
 ghost use Rattle.find.specs.Found.{AllKept};
 ghost use Rattle.find.specs.Reals.{Reals};
-ghost use Rattle.snapshot.specs.Returned.{returnedRecords, returnedIn, returnedAt, Behind, offsetSize, firstRecords, epochIn, kraftIn, numberBytes, offsetBytes, epochBytes, kraftBytes};
+ghost use Rattle.snapshot.specs.Returned.{returnedRecords, returnedIn, returnedAt, Behind, firstRecords, epochIn, kraftIn, offsetBytes, epochBytes, kraftBytes};
 
 const NEGATIVE: u64 = 0x8000_0000_0000_0000;
 
@@ -98,17 +98,6 @@ fn put_entries(out: &mut [u8], offset: usize, s: &[u8]) -> usize
             }
         }
     }
-}
-
-// Writes a record of a kind whose one field is a number. Where it ends.
-fn put_number(out: &mut [u8], at: usize, kind: u8, width: usize, n: u64) -> usize
-    requires { ⌜ (width ≤ 8) × (at + 6 + width ≤ length (now out)) ⌝ }
-    ensures { λ r. ⌜ (r ≡ at + 6 + width) × (now (out .exit) ≡ putAt (now (out .entry)) at (numberBytes kind width n)) ⌝ }
-{
-    put_head(out, at, kind, 3 + width);
-    put_head(out, at + 3, 1, width);
-    wire::put(out, at + 6, width, n);
-    at + 6 + width
 }
 
 // Places the log offset's record at the start of an output. How long it is.

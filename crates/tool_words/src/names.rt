@@ -103,7 +103,7 @@ pub fn say_verdict(number: u8) -> bool {
         a node twice in the replicas\n\
         the log offset is not above the stored one\n\
         the log offset is missing at the start, or stands later\n\
-        no verdict\n\
+        the log offset given is below -1\n\
         an unlawful topic name\n\
         no verdict",
         number,

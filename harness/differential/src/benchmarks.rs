@@ -2,6 +2,7 @@
 //! of four sizes, and tells it in tables and in a plot.
 
 mod changes;
+mod conversions;
 mod lookups;
 mod numbers;
 mod page;
@@ -16,6 +17,7 @@ mod worst;
 pub use page::Page;
 
 use crate::images::Full;
+use conversions::Conversion;
 use records::Record;
 use rows::Row;
 use worst::Worst;
@@ -33,6 +35,7 @@ pub struct Figures {
     counts: [usize; SIZES.len()],
     rows: Vec<Row>,
     records: Vec<Record>,
+    conversions: [Conversion; 2],
     worst: Vec<Worst>,
 }
 
@@ -46,6 +49,7 @@ impl Figures {
                 counts: images.each_ref().map(|full| full.image.to_records().len()),
                 rows: rows::measure(&images),
                 records: records::measure(),
+                conversions: conversions::measure(&images[SIZES.len() - 1]),
                 worst: worst::measure(&images[SIZES.len() - 1]),
             }
         });
@@ -56,11 +60,14 @@ impl Figures {
     fn best(self, other: Self) -> Self {
         let rows = self.rows.into_iter().zip(other.rows);
         let records = self.records.into_iter().zip(other.records);
+        let [to_new, to_old] = self.conversions;
+        let [new, old] = &other.conversions;
         let worst = self.worst.into_iter().zip(other.worst);
         Self {
             counts: self.counts,
             rows: rows.map(|(one, other)| one.best(&other)).collect(),
             records: records.map(|(one, other)| one.best(&other)).collect(),
+            conversions: [to_new.best(new), to_old.best(old)],
             worst: worst.map(|(one, other)| one.best(&other)).collect(),
         }
     }

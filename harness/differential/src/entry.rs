@@ -2,10 +2,14 @@
 //! every call is safe.
 
 #[cfg(feature = "images")]
+mod conversions;
+#[cfg(feature = "images")]
 mod images;
 #[cfg(feature = "images")]
 mod restarts;
 
+#[cfg(feature = "images")]
+pub use conversions::*;
 #[cfg(feature = "images")]
 pub use images::*;
 #[cfg(feature = "images")]

@@ -2,6 +2,7 @@
 //! step along whole histories, uncut and cut, and along the passes of a
 //! downgrade. A step is held to the number and to every byte of the buffer.
 
+mod conversions;
 mod course;
 mod cuts;
 mod drawn;
@@ -15,6 +16,7 @@ mod restart;
 mod runs;
 mod short;
 
+pub use conversions::{compare_conversions, compare_named_conversions, new_form, old_form};
 pub use cuts::compare_cuts;
 pub use drawn::compare_drawn;
 pub use no_image::compare_no_image;

@@ -15,6 +15,8 @@ pub const NO_ROOM: u8 = 18;
 pub const NOT_LATER: u8 = 21;
 /// The log offset's record is missing at a snapshot's start, or stands later.
 pub const MISPLACED_OFFSET: u8 = 22;
+/// The log offset given for a snapshot of the old form is below -1.
+pub const OFFSET_TOO_LOW: u8 = 23;
 /// A topic's name is unlawful.
 pub const UNLAWFUL_NAME: u8 = 24;
 

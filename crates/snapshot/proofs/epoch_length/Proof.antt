@@ -2,7 +2,8 @@
 use mathlib.Core.Path.{sym, ap, _∙_}
 use native.Mathlib.Omega.{arith}
 use lib.ListN.{length}
-use Rattle.snapshot.proofs.Trails.{length-number, epoch-some, epoch-none}
+use Rattle.records.proofs.Numbers.{length-number}
+use Rattle.snapshot.proofs.Trails.{epoch-some, epoch-none}
 use Rattle.snapshot.proofs.epoch_length.Statement.{statement}
 use Rattle.snapshot.proofs.epoch_length.Tie as tie
 

@@ -2,7 +2,8 @@
 use mathlib.Core.Path.{sym, ap, _∙_}
 use native.Mathlib.Omega.{arith}
 use lib.ListN.{length}
-use Rattle.snapshot.proofs.Trails.{length-number, kraft-some, kraft-none}
+use Rattle.records.proofs.Numbers.{length-number}
+use Rattle.snapshot.proofs.Trails.{kraft-some, kraft-none}
 use Rattle.snapshot.proofs.kraft_length.Statement.{statement}
 use Rattle.snapshot.proofs.kraft_length.Tie as tie
 

@@ -1,5 +1,6 @@
 //! The tables of the figures, in Markdown.
 
+use super::conversions::Conversion;
 use super::numbers::{ratio, size, time};
 use super::records::Record;
 use super::rows::Row;
@@ -15,6 +16,9 @@ pub fn tables(figures: &Figures) -> String {
         beside(&figures.rows),
         "Read and Write, which take no image, beside the harness's own:\n".to_owned(),
         records(&figures.records),
+        "A snapshot's two forms, beside Read of the run's records in a row and the harness's own:\n"
+            .to_owned(),
+        conversions(&figures.conversions),
         "Worst cases found, at 64 KB, beside the same call on the plain full image:\n".to_owned(),
         worst(&figures.worst, &figures.rows),
     ]
@@ -64,6 +68,23 @@ fn records(records: &[Record]) -> String {
             cells.extend([time(times.proved), time(times.rust), ratio(times.ratio())]);
         }
         cells
+    });
+    table(head, 1, rows)
+}
+
+fn conversions(conversions: &[Conversion]) -> String {
+    let head = "operation | bytes | time | Read in a row | time/Read | Rust | proved/Rust";
+    let rows = conversions.iter().map(|conversion| {
+        let Conversion { times, read, .. } = conversion;
+        vec![
+            conversion.name.to_owned(),
+            conversion.bytes.to_string(),
+            time(times.proved),
+            time(*read),
+            ratio(times.proved / read),
+            time(times.rust),
+            ratio(times.ratio()),
+        ]
     });
     table(head, 1, rows)
 }

@@ -1,9 +1,9 @@
--- `snapshot::put_number` meets its contract.
+-- `records::put_number` meets its contract.
 use borrow.Author.Needs.{needs}
 use mathlib.Core.Path.{refl}
-use Rattle.snapshot.proofs.Trails.{number-written}
-use Rattle.snapshot.proofs.put_number.Statement.{statement}
-use Rattle.snapshot.proofs.put_number.Tie as tie
+use Rattle.records.proofs.Numbers.{number-written}
+use Rattle.records.proofs.put_number.Statement.{statement}
+use Rattle.records.proofs.put_number.Tie as tie
 
 add-put-head : tie.Need-add-put-head
 add-put-head c = search needs

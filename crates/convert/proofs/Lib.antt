@@ -1,0 +1,3 @@
+pub mod Checking
+pub mod Forms
+pub mod Exits

@@ -1,0 +1,1 @@
+// Laws of snapshots in the old form and the new one. See `specs/`.
