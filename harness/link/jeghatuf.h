@@ -114,6 +114,13 @@ uint64_t jeghatuf_broker(const uint8_t *image, size_t image_len, uint64_t node, 
 uint64_t jeghatuf_freeze(const uint8_t *image, size_t image_len, const uint8_t *name, size_t name_len,
                          uint8_t *out, size_t out_len);
 
+/* The same from a run of records, which may start with a log offset: the freeze
+ * that the image after them has. The value is 0. value[0] gets the bytes written,
+ * or where a record is refused, by 22 also where a log offset stands later, the
+ * byte that it begins at. */
+uint64_t jeghatuf_log_freeze(const uint8_t *run, size_t run_len, const uint8_t *name, size_t name_len,
+                             uint8_t *out, size_t out_len, uint64_t *value, size_t value_len);
+
 /* Puts a node's throttle into value[0], in bytes a second; the kinds are 0 for
  * the leader's, 1 for the follower's, 2 between log directories. The value is 1,
  * or 0 where there is no throttle. */

@@ -16,6 +16,7 @@ use Rattle.model.specs.Apply.{applyOf}
 use Rattle.model.specs.Snapshot.{snapshotOf, restoreOf}
 use Rattle.model.specs.Convert.{withOffsetOf, withoutOffsetOf}
 use Rattle.model.specs.Lookup.{topicByName, topicById, partitionOf, brokerOf, epochOf, offsetOf, shortOf, freezeOf, throttleOf}
+use Rattle.model.specs.LogFreeze.{logFreezeOf}
 use Rattle.model.specs.Downgrade.{downgradeOf}
 use Rattle.model.specs.declared.Kind.{Kind}
 use Rattle.laws_answers.specs.Values.{Below, none-below, read-below, write-below, open-below, validate-below, apply-below, topic-below, topic-id-below}
@@ -46,6 +47,7 @@ pub record Unpacked : Type 0 where
   pub jeghatuf-restore : (input image : Bytes) → AloneBack (restoreOf input image .reply)
   pub jeghatuf-with-offset : (run : Bytes) (offset : ℕ) (out : Bytes) → AloneBack (withOffsetOf run offset out .reply)
   pub jeghatuf-without-offset : (run out : Bytes) → AloneBack (withoutOffsetOf run out .reply)
+  pub jeghatuf-log-freeze : (run name out : Bytes) → AloneBack (logFreezeOf run name out .reply)
 
 -- a number of no kind is a refusal, which has no value
 write-number-below : (kind : ℕ) (tags : Bytes) (lengths : List ℕ) (values out : Bytes) → Below (writeOfNumber kind tags lengths values out .reply)
@@ -78,4 +80,5 @@ unpacked = record {
   jeghatuf-restore = λ input image. alone-undone (restoreOf input image .reply);
   jeghatuf-with-offset = λ run offset out. alone-undone (withOffsetOf run offset out .reply);
   jeghatuf-without-offset = λ run out. alone-undone (withoutOffsetOf run out .reply);
+  jeghatuf-log-freeze = λ run name out. alone-undone (logFreezeOf run name out .reply);
 }

@@ -13,6 +13,7 @@
 --   every move of a plan is lawful ........................ Plans.plan-lawful
 --   contents that fit fit afterwards ...................... MovedFits.moved-fits, MovedFits.outcome, MovedFits.applied-fits,
 --                                                           MovedFits.applied-at-fits
+--   what Restore accepts, and the last record that sets ... Accepts.accepting, Accepts.last-stands, Accepts.accepted-last
 --   the last record of a quota in a run stands ............ Spellings.one-group, Spellings.later-stands
 --   Apply keeps images, and what it answers ............... Apply.apply-image, Apply.apply-contents
 pub mod Readable
@@ -28,5 +29,6 @@ pub mod Permuted
 pub mod Found
 pub mod Plans
 pub mod MovedFits
+pub mod Accepts
 pub mod Spellings
 pub mod Apply

@@ -5,13 +5,10 @@ use mathlib.Core.List.{List, [], _∷_, map}
 use mathlib.Core.Option.{Option, none, some}
 use Prim.Native.Nat.{ℕ, zero, suc, _-_, _≤_}
 use native.Mathlib.Omega.{arith}
-use borrow.Author.Tests.{not-true, not-false, leb-true, ne-eqb}
-use lib.Dec.{leb}
+use borrow.Author.Tests.{not-true, not-false, ne-eqb}
 use lib.ListN.{length, take, drop}
-use Rattle.model.specs.Choice.{unless}
 use Rattle.model.specs.Number.{Bytes, bytes}
 use Rattle.model.specs.Order.{Key}
-use Rattle.model.specs.Text.{isText}
 use Rattle.model.specs.Shape.{stringLimit, textFault}
 use Rattle.model.specs.Key.{topicKey, partitionKey, nodeKey}
 use Rattle.model.specs.Record.{Rec}
@@ -22,7 +19,6 @@ use Rattle.model.specs.Reply.{Reply, accepted, refused, Ended}
 use Rattle.model.specs.Snapshot.{emit}
 use Rattle.model.specs.Lookup.{found, named, namedBy, topicByName, topicById, partitionOf, brokerOf, epochOf, offsetOf, shortCount, shortOf, throttle, throttleName, leaderRate, followerRate, alterLogDirsRate, freeze, asList, asValues, freezeOf, throttleOf}
 use Rattle.model.specs.declared.Kind.the-variants.{Partition, BrokerRegistration}
-use Rattle.laws.specs.Choice.{orThen-right, unless-true}
 use Rattle.laws_image.specs.Tests.{capacity-least, image-holds}
 use Rattle.entries.specs.Entries.{recordsIn}
 use Rattle.find.specs.Found.{queryKey, foundIn}
@@ -43,10 +39,6 @@ unfolding foundIn
 lent-found image r k = ap (λ l. found (get key k l)) (lent-held image r)
 
 -- 2. What is asked for
-
-pub name-fits : (name : Bytes) → 0 ≡ textFault stringLimit name → length name ≤ 255
-name-fits name e =
-    leb-true (length name) stringLimit (unless-true (leb (length name) stringLimit) 5 (omega arith) (orThen-right (unless (isText name) 4) (unless (leb (length name) stringLimit) 5) (sym e)))
 
 pub image-head : (image : Bytes) → isImage image ≡ true → headSize ≤ length image
 image-head image h = omega (arith, capacity-least (length image) (image-holds image h .within))

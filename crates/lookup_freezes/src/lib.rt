@@ -18,7 +18,7 @@ ghost use Rattle.entries.specs.Held.{entriesIn};
 ghost use Rattle.lookup_freezes.specs.Freezes.{frozenIn, Chosen};
 
 // Whether a name is internal: none of these is frozen.
-fn is_internal(name: &[u8]) -> bool
+pub fn is_internal(name: &[u8]) -> bool
     ensures { λ r. ⌜ r ≡ beginsWith internal (now (name .entry)) ⌝ }
 {
     if name.len() < 2 {

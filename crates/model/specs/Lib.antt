@@ -41,6 +41,7 @@
 --   5, the image knows its place in the log ............... Contents.dated, Image.header, Apply.applyAt, Snapshot.offsetRec, replayRun,
 --                                                           Lookup.offsetOf; History.CutsUnseen: cut histories agree on it; OffsetOfLast
 --   6, snapshots from last season ......................... Convert.withOffsetOf, withoutOffsetOf, OldNewOld, NewOldNew
+--   14, the freeze, from the log alone .................... LogFreeze.lastFreeze, logFreezeOf, FreezeFromLog
 pub mod Choice
 pub mod Number
 pub mod Text
@@ -66,3 +67,4 @@ pub mod Lookup
 pub mod Downgrade
 pub mod History
 pub mod Convert
+pub mod LogFreeze

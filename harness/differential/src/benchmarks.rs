@@ -3,6 +3,7 @@
 
 mod changes;
 mod conversions;
+mod logs;
 mod lookups;
 mod numbers;
 mod page;
@@ -18,6 +19,7 @@ pub use page::Page;
 
 use crate::images::Full;
 use conversions::Conversion;
+use logs::Log;
 use records::Record;
 use rows::Row;
 use worst::Worst;
@@ -37,6 +39,7 @@ pub struct Figures {
     records: Vec<Record>,
     conversions: [Conversion; 2],
     worst: Vec<Worst>,
+    logs: Vec<Log>,
 }
 
 impl Figures {
@@ -51,6 +54,7 @@ impl Figures {
                 records: records::measure(),
                 conversions: conversions::measure(&images[SIZES.len() - 1]),
                 worst: worst::measure(&images[SIZES.len() - 1]),
+                logs: logs::measure(&images[SIZES.len() - 1]),
             }
         });
         passes.reduce(Self::best).expect("a pass")
@@ -63,12 +67,14 @@ impl Figures {
         let [to_new, to_old] = self.conversions;
         let [new, old] = &other.conversions;
         let worst = self.worst.into_iter().zip(other.worst);
+        let logs = self.logs.into_iter().zip(other.logs);
         Self {
             counts: self.counts,
             rows: rows.map(|(one, other)| one.best(&other)).collect(),
             records: records.map(|(one, other)| one.best(&other)).collect(),
             conversions: [to_new.best(new), to_old.best(old)],
             worst: worst.map(|(one, other)| one.best(&other)).collect(),
+            logs: logs.map(|(one, other)| one.best(&other)).collect(),
         }
     }
 

@@ -6,12 +6,16 @@ mod conversions;
 #[cfg(feature = "images")]
 mod images;
 #[cfg(feature = "images")]
+mod logs;
+#[cfg(feature = "images")]
 mod restarts;
 
 #[cfg(feature = "images")]
 pub use conversions::*;
 #[cfg(feature = "images")]
 pub use images::*;
+#[cfg(feature = "images")]
+pub use logs::*;
 #[cfg(feature = "images")]
 pub use restarts::*;
 

@@ -26,6 +26,7 @@ pub use listings::compare_listing;
 pub use moves::compare_moves;
 pub use names::compare_names;
 pub use open::compare_open;
+pub(crate) use rules::frozen_names;
 pub(crate) use subject::{Subject, knobs};
 pub use tally::Tally;
 

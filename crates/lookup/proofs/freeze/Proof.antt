@@ -2,7 +2,8 @@
 use borrow.Author.Needs.{needs}
 use mathlib.Core.Path.{sym, _∙_}
 use Rattle.find.proofs.Lent.{lent-entries, lent-kept, lent-held}
-use Rattle.lookup.proofs.Answers.{name-fits, freeze-no-image, freeze-refused, image-is, freeze-found}
+use Rattle.lookup_freezes.proofs.Names.{name-fits}
+use Rattle.lookup.proofs.Answers.{freeze-no-image, freeze-refused, image-is, freeze-found}
 use Rattle.lookup.proofs.freeze.Statement.{statement}
 use Rattle.lookup.proofs.freeze.Tie as tie
 

@@ -3,7 +3,8 @@ use borrow.Author.Needs.{needs}
 use mathlib.Core.Path.{sym, ap, _∙_}
 use lib.ListN.{length}
 use Rattle.find.proofs.Queries.{partition-query}
-use Rattle.lookup.proofs.Answers.{partition-no-image, image-is, partition-refused, name-fits, partition-found}
+use Rattle.lookup_freezes.proofs.Names.{name-fits}
+use Rattle.lookup.proofs.Answers.{partition-no-image, image-is, partition-refused, partition-found}
 use Rattle.lookup.proofs.partition.Statement.{statement}
 use Rattle.lookup.proofs.partition.Tie as tie
 

@@ -2,7 +2,8 @@
 use borrow.Author.Needs.{needs}
 use mathlib.Core.Path.{sym, _∙_}
 use Rattle.find.proofs.Queries.{topic-query}
-use Rattle.lookup.proofs.Answers.{topic-no-image, image-is, topic-refused, name-fits, topic-found}
+use Rattle.lookup_freezes.proofs.Names.{name-fits}
+use Rattle.lookup.proofs.Answers.{topic-no-image, image-is, topic-refused, topic-found}
 use Rattle.lookup.proofs.topic.Statement.{statement}
 use Rattle.lookup.proofs.topic.Tie as tie
 

@@ -1,6 +1,7 @@
 //! The tables of the figures, in Markdown.
 
 use super::conversions::Conversion;
+use super::logs::Log;
 use super::numbers::{ratio, size, time};
 use super::records::Record;
 use super::rows::Row;
@@ -21,6 +22,9 @@ pub fn tables(figures: &Figures) -> String {
         conversions(&figures.conversions),
         "Worst cases found, at 64 KB, beside the same call on the plain full image:\n".to_owned(),
         worst(&figures.worst, &figures.rows),
+        "The freeze of a name from a run of records, beside other calls of the library:\n"
+            .to_owned(),
+        logs(&figures.logs),
     ]
     .join("\n")
 }
@@ -105,6 +109,21 @@ fn worst(cases: &[Worst], rows: &[Row]) -> String {
         ]
     });
     table(head, 1, rows)
+}
+
+fn logs(logs: &[Log]) -> String {
+    let head = "run | beside | time | time beside | ratio";
+    let rows = logs.iter().map(|log| {
+        let Log { name, times, .. } = log;
+        vec![
+            name.clone(),
+            log.beside.to_owned(),
+            time(times.proved),
+            time(times.rust),
+            ratio(times.ratio()),
+        ]
+    });
+    table(head, 2, rows)
 }
 
 /// The first columns, so many as `words` says, hold words, the others numbers.
