@@ -1,4 +1,5 @@
 pub mod Found
+pub mod First
 pub mod Orders
 pub mod Elements
 pub mod Keys

@@ -1,12 +1,12 @@
 -- The order of quota entities, as their keys have it.
 use mathlib.Core.Path.{_≡_}
 use mathlib.Core.List.{List, [], _∷_}
-use Prim.Native.Nat.{_≤_, _<_, Ordering, Ordering·lt, Ordering·eq, Ordering·gt}
+use Prim.Native.Nat.{_+_, _≤_, _<_, Ordering, Ordering·lt, Ordering·eq, Ordering·gt}
 use lib.ListN.{length}
 use lib.Seq.{slice}
 use Rattle.model.specs.Number.{Bytes}
 use Rattle.model.specs.Order.{compareBytes, thenBy}
-use Rattle.model.specs.Run.{Run, runOf, field, value, values}
+use Rattle.model.specs.Run.{Run, item, runOf, field, value, values}
 use Rattle.model.specs.Key.{namePart}
 use Rattle.laws_records.specs.Fields.{Ascending}
 use Rattle.fields.specs.declared.Cursor.{Cursor}
@@ -30,10 +30,11 @@ compareEntities [] (f ∷ fs) = Ordering·lt
 compareEntities (e ∷ es) [] = Ordering·gt
 compareEntities (e ∷ es) (f ∷ fs) = thenBy (entityOrder (runOf e) (runOf f)) (compareEntities es fs)
 
--- where an element's type stands
+-- where an element's type stands; where that is the first place, the other fields are behind it
 pub record Element (s : Bytes) (c r : Cursor) : Type 0 where
   pub holds : slice (r .at) (r .to) s ≡ value 1 (fieldsFrom s c)
   pub inside : Inside s r
+  pub first : r .at ≡ c .at + 3 → (fieldsFrom s c ≡ item 1 (slice (r .at) (r .to) s) (fieldsFrom s (record { at = r .to; to = c .to }))) × (r .to ≤ c .to)
 
 -- the elements from a cursor on: the one at it and those after it, or none
 unfoldable pub onward : Bytes → Cursor → Entity → Type 0

@@ -6,10 +6,10 @@ use model::Order;
 use reader::field;
 ghost use mathlib.Core.Path.{_≡_};
 ghost use Rattle.model.specs.Order.{ordering};
-ghost use Rattle.model.specs.Run.{values};
+ghost use Rattle.model.specs.Run.{field as fieldOf, values};
 ghost use Rattle.fields.specs.Fields.{fieldsFrom, Inside};
 ghost use Rattle.keys.specs.Keys.{runIn};
-ghost use Rattle.keys.specs.Entities.{nameOrder, typeOrder, entityOrder, compareEntities, Element, onward, Quotas};
+ghost use Rattle.keys.specs.Entities.{nameOrder, entityOrder, compareEntities, Element, onward, Quotas};
 
 // What stands at a cursor: an element's place and the cursor after it, or no more elements.
 pub enum Entity {
@@ -67,26 +67,12 @@ fn compare_names(a: &[u8], x: Cursor, b: &[u8], y: Cursor) -> Order
     }
 }
 
-// The order of two elements' types.
-fn compare_types(a: &[u8], x: Cursor, b: &[u8], y: Cursor) -> Order
-    requires { ⌜ Inside (now a) x × Inside (now b) y ⌝ }
-    ensures { λ r. ⌜ ordering r ≡ typeOrder (fieldsFrom (now (a .entry)) x) (fieldsFrom (now (b .entry)) y) ⌝ }
-{
-    let p = part_of(a, x);
-    let q = part_of(b, y);
-    let ps = p.at;
-    let pe = p.to;
-    let qs = q.at;
-    let qe = q.to;
-    wire::compare(&a[ps..pe], &b[qs..qe])
-}
-
 // Where an element's type stands, or nothing where there is none.
 fn part_of(s: &[u8], c: Cursor) -> Cursor
     requires { ⌜ Inside (now s) c ⌝ }
     ensures { λ r. ⌜ Element (now (s .entry)) c r ⌝ }
 {
-    match field(s, c, 1) {
+    match fields::field(s, c, 1) {
         Found::Part { start, len } => Cursor {
             at: start,
             to: start + len,
@@ -95,14 +81,31 @@ fn part_of(s: &[u8], c: Cursor) -> Cursor
     }
 }
 
+// The fields that an element's name is among: those behind its type, where that comes first.
+fn behind(s: &[u8], c: Cursor, p: Cursor) -> Cursor
+    requires { ⌜ Inside (now s) c × Element (now s) c p ⌝ }
+    ensures { λ r. ⌜ Inside (now (s .entry)) r × (fieldOf 2 (fieldsFrom (now (s .entry)) r) ≡ fieldOf 2 (fieldsFrom (now (s .entry)) c)) ⌝ }
+{
+    if p.at == c.at + 3 {
+        return Cursor { at: p.to, to: c.to };
+    }
+    c
+}
+
 // The order of two entities, each the fields at a cursor: type, then name, an absent name first.
 pub fn compare_entity(a: &[u8], x: Cursor, b: &[u8], y: Cursor) -> Order
     requires { ⌜ Inside (now a) x × Inside (now b) y ⌝ }
     ensures { λ r. ⌜ ordering r ≡ entityOrder (fieldsFrom (now (a .entry)) x) (fieldsFrom (now (b .entry)) y) ⌝ }
 {
-    match compare_types(a, x, b, y) {
+    let p = part_of(a, x);
+    let q = part_of(b, y);
+    let ps = p.at;
+    let pe = p.to;
+    let qs = q.at;
+    let qe = q.to;
+    match wire::compare(&a[ps..pe], &b[qs..qe]) {
         Order::Less => Order::Less,
-        Order::Equal => compare_names(a, x, b, y),
+        Order::Equal => compare_names(a, behind(a, x, p), b, behind(b, y, q)),
         Order::Greater => Order::Greater,
     }
 }

@@ -3,6 +3,7 @@ use borrow.Author.Needs.{needs}
 use native.Mathlib.Omega.{arith}
 use Rattle.fields.proofs.Took.{within-part}
 use Rattle.keys.proofs.Found.{value-part, value-missing}
+use Rattle.keys.proofs.First.{type-held, type-first}
 use Rattle.keys.proofs.entities.part_of.Statement.{statement}
 use Rattle.keys.proofs.entities.part_of.Tie as tie
 
@@ -13,21 +14,32 @@ enum-known-start : tie.Need-enum-known-start
 enum-known-start c = search needs
 
 add-t7 : tie.Need-add-t7
-add-t7 c = let w = within-part (c .before .start .given .1) (c .before .before .before .field .ensures .1) in omega arith
+add-t7 c =
+    let found = c .before .before .before in
+    let w = within-part (c .before .start .given .1) (type-held _ _ (found .before .before .pre) (found .field .ensures) .1) in
+    omega arith
 
 enum-told : tie.Need-enum-told
 enum-told c = search needs
 
 returns : tie.Need-returns
 returns c =
-    let f = c .before .before .before .field .ensures in
-    let w = within-part (c .before .start .given .1) (f .1) in
-    record { holds = value-part _ _ _ (f .0) (c .before .start .given .1); inside = (omega arith, omega arith) }
+    let found = c .before .before .before in
+    let pre = found .before .before .pre in
+    let given = c .before .start .given .1 in
+    let f = type-held _ _ pre (found .field .ensures) in
+    let w = within-part given (f .1) in
+    record {
+      holds = value-part _ _ _ (f .0) given;
+      inside = (omega arith, omega arith);
+      first = λ h. (type-first _ _ pre (found .field .ensures) given h, w);
+    }
 
 returns-2 : tie.Need-returns-2
 returns-2 c =
-    let f = c .before .before .field .ensures in
-    record { holds = value-missing _ _ _ (f .0) (c .enum-told .given .1); inside = (omega arith, omega arith) }
+    let found = c .before .before in
+    let f = type-held _ _ (found .before .before .pre) (found .field .ensures) in
+    record { holds = value-missing _ _ _ (f .0) (c .enum-told .given .1); inside = (omega arith, omega arith); first = λ h. absurd (omega arith) }
 
 pub part-of-spec : {M : Type 1} → statement M
 part-of-spec =
