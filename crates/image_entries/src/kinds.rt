@@ -1,5 +1,6 @@
 // What is asked of an entry, by its kind.
 use crate::entities::entities_in_order;
+use crate::entities::has_value_in_order;
 use crate::values::has;
 use crate::values::is_empty;
 use crate::values::value_number;
@@ -75,7 +76,7 @@ pub fn is_storable(e: &[u8]) -> bool
         kinds::DELETE_TOPIC => false,
         kinds::TOPIC_CONFIG => has(e, 2),
         kinds::BROKER_CONFIG => has(e, 3),
-        kinds::CLIENT_QUOTA => has(e, 3) && entities_in_order(e),
+        kinds::CLIENT_QUOTA => has_value_in_order(e),
         kinds::PRODUCER_IDS => is_positive(value_number(e, 3, 8)),
         kinds::UNREGISTER_BROKER => false,
         kinds::KRAFT_VERSION => false,
