@@ -3,7 +3,8 @@
  * No call asks anything of the bytes that it is given, and none keeps a
  * pointer. A list goes as a pointer, which is never null, and how many elements
  * it has. A list that is written to overlaps no other one. A number that goes
- * to value[0], values[1] or place[0] is lost where that list has no such element.
+ * to value[0], values[1], place[0] or read[0] is lost where that list has no such
+ * element.
  *
  * Where nothing else is said, an answer is packed: a refusal's number, 0 where
  * there is none, times 2^32, plus a value: the bytes used or written, or a
@@ -114,10 +115,19 @@ uint64_t jeghatuf_broker(const uint8_t *image, size_t image_len, uint64_t node, 
 uint64_t jeghatuf_freeze(const uint8_t *image, size_t image_len, const uint8_t *name, size_t name_len,
                          uint8_t *out, size_t out_len);
 
-/* The same from a run of records, which may start with a log offset: the freeze
- * that the image after them has. The value is 0. value[0] gets the bytes written,
- * or where a record is refused, by 22 also where a log offset stands later, the
- * byte that it begins at. */
+/* The freezes of a list of up to 256 names in ascending order, repeats allowed,
+ * each as its length in two bytes, the higher first, and its bytes. Two bytes to
+ * a name are written: its freeze's index from 0 among the stored freezes in the
+ * order of a snapshot, hex FFFF for none. The bytes written. read[0] gets how many
+ * stored freezes were read: of each pattern, in order, those whose scope is not
+ * above the last name, and the next one. */
+uint64_t jeghatuf_freezes(const uint8_t *image, size_t image_len, const uint8_t *list, size_t list_len,
+                          uint8_t *out, size_t out_len, uint64_t *read, size_t read_len);
+
+/* The freeze of a name from a run of records, which may start with a log offset:
+ * the freeze that the image after them has. The value is 0. value[0] gets the
+ * bytes written, or where a record is refused, by 22 also where a log offset
+ * stands later, the byte that it begins at. */
 uint64_t jeghatuf_log_freeze(const uint8_t *run, size_t run_len, const uint8_t *name, size_t name_len,
                              uint8_t *out, size_t out_len, uint64_t *value, size_t value_len);
 

@@ -9,6 +9,7 @@ use Rattle.model.specs.Image.{isImage, contentsOf}
 use Rattle.model.specs.Snapshot.{body, snapshot, snapshotOf}
 use Rattle.model.specs.Validate.{validateOf}
 use Rattle.model.specs.Lookup.{topicByName, topicById, partitionOf, brokerOf, epochOf, offsetOf, shortOf, freezeOf, throttleOf}
+use Rattle.model.specs.FreezeList.{freezeListOf}
 use Rattle.model.specs.Downgrade.{downgrade, downgradeOf}
 use Rattle.history.specs.Like.{Like}
 
@@ -62,6 +63,10 @@ module _ (u c : Bytes) (a : Alike u c) where
   pub same-freeze : (name out : Bytes) → freezeOf c name out ≡ freezeOf u name out
   unfolding freezeOf
   same-freeze name out = rw (a .first, a .second, same-real)
+
+  pub same-freezes : (list out : Bytes) → freezeListOf c list out ≡ freezeListOf u list out
+  unfolding freezeListOf
+  same-freezes list out = rw (a .first, a .second, same-real)
 
   pub same-throttle : (node which : ℕ) → throttleOf c node which ≡ throttleOf u node which
   unfolding throttleOf

@@ -5,7 +5,7 @@ use mathlib.Core.List.{List, [], _∷_}
 use Prim.Native.Nat.{ℕ, _+_, _*_}
 use native.Mathlib.Omega.{arith}
 use Rattle.model.specs.Reply.{Reply}
-use Rattle.model.specs.Answers.{numberReply, valued, rating, restoreReply, runReply, separateReply}
+use Rattle.model.specs.Answers.{numberReply, valued, rating, restoreReply, runReply, separateReply, countReply}
 use Rattle.model.specs.declared.answers.Value.{Value}
 use Rattle.model.specs.declared.answers.Value.the-variants.{Is, Refused}
 use Rattle.model.specs.declared.answers.Rated.{Rated}
@@ -17,7 +17,9 @@ use Rattle.model.specs.declared.answers.RunAnswer.{RunAnswer}
 use Rattle.model.specs.declared.answers.RunAnswer.the-variants as run
 use Rattle.model.specs.declared.answers.Separated.{Separated}
 use Rattle.model.specs.declared.answers.Separated.the-variants as separation
-use Rattle.packing.specs.Packed.{packed, firstIs, filled, counted, widened}
+use Rattle.model.specs.declared.answers.Counted.{Counted}
+use Rattle.model.specs.declared.answers.Counted.the-variants as list
+use Rattle.packing.specs.Packed.{packed, firstIs, beside, filled, counted, widened}
 
 -- a number alone
 pub packed-number : {n x : ℕ} {r : Reply} → x ≡ n * 4294967296 → numberReply n ≡ r → x ≡ packed r
@@ -109,3 +111,18 @@ module _ {v : Separated} {r : Reply} (e : separateReply v ≡ r) where
   pub separate-stopped : {n at x : ℕ} {m : List ℕ} → v ≡ separation.Stopped n at → x ≡ n * 4294967296 → (l : List ℕ) → m ≡ firstIs (at ∷ []) l
       → (x ≡ r .number * 4294967296) × (m ≡ filled (r .values) l)
   separate-stopped {n} {at} h q l p = rw (← separated-as (separation.Stopped n at) h) (q, p ∙ one-filled at l)
+
+-- the bytes written for a list, and the freezes read beside them
+module _ {v : Counted} {r : Reply} (e : countReply v ≡ r) where
+  counted-as : (w : Counted) → v ≡ w → countReply w ≡ r
+  counted-as w h = ap countReply (sym h) ∙ e
+
+  pub list-written : {n read : ℕ} {m : List ℕ} → v ≡ list.Written n read → (l : List ℕ) → m ≡ firstIs (read ∷ []) l → (n ≡ packed r) × (m ≡ beside r l)
+  list-written {n} {read} h l p =
+      let k : n ≡ 0 * 4294967296 + n = omega arith in
+      rw (← counted-as (list.Written n read) h) (k, p)
+
+  pub list-refused : {n x : ℕ} → v ≡ list.Refused n → x ≡ n * 4294967296 → (l : List ℕ) → (x ≡ packed r) × (l ≡ beside r l)
+  list-refused {n} {x} h q l =
+      let k : x ≡ n * 4294967296 + 0 = omega (arith, q) in
+      rw (← counted-as (list.Refused n) h) (k, refl)

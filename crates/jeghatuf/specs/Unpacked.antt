@@ -16,11 +16,13 @@ use Rattle.model.specs.Apply.{applyOf}
 use Rattle.model.specs.Snapshot.{snapshotOf, restoreOf}
 use Rattle.model.specs.Convert.{withOffsetOf, withoutOffsetOf}
 use Rattle.model.specs.Lookup.{topicByName, topicById, partitionOf, brokerOf, epochOf, offsetOf, shortOf, freezeOf, throttleOf}
+use Rattle.model.specs.FreezeList.{freezeListOf}
 use Rattle.model.specs.LogFreeze.{logFreezeOf}
 use Rattle.model.specs.Downgrade.{downgradeOf}
 use Rattle.model.specs.declared.Kind.{Kind}
 use Rattle.laws_answers.specs.Values.{Below, none-below, read-below, write-below, open-below, validate-below, apply-below, topic-below, topic-id-below}
 use Rattle.laws_answers.specs.Values.{partition-below, broker-below, short-below, freeze-below, throttle-once, snapshot-below, downgrade-below}
+use Rattle.laws_answers.specs.Jobs.{freezes-below}
 use Rattle.packing.specs.Undone.{PackedBack, CountedBack, AloneBack, packed-undone, counted-undone, alone-undone}
 use Rattle.jeghatuf.specs.Write.{writeOfNumber}
 
@@ -37,6 +39,7 @@ pub record Unpacked : Type 0 where
   pub jeghatuf-broker : (image : Bytes) (node : ℕ) (out : Bytes) → AreBytes image → PackedBack (brokerOf image node out .reply)
   pub jeghatuf-short-count : (image : Bytes) → AreBytes image → PackedBack (shortOf image)
   pub jeghatuf-freeze : (image name out : Bytes) → AreBytes image → PackedBack (freezeOf image name out .reply)
+  pub jeghatuf-freezes : (image list out : Bytes) → PackedBack (freezeListOf image list out .reply)
   pub jeghatuf-snapshot : (image out : Bytes) → AreBytes image → PackedBack (snapshotOf image out .reply)
   pub jeghatuf-downgrade : (image : Bytes) (level : ℕ) (out : Bytes) → AreBytes image → PackedBack (downgradeOf image level out .reply)
   -- how many values came: the value itself is in the lent list
@@ -72,6 +75,7 @@ unpacked = record {
   jeghatuf-broker = λ image node out b. packed-undone (brokerOf image node out .reply) (broker-below image b node out);
   jeghatuf-short-count = λ image b. packed-undone (shortOf image) (short-below image b);
   jeghatuf-freeze = λ image name out b. packed-undone (freezeOf image name out .reply) (freeze-below image b name out);
+  jeghatuf-freezes = λ image list out. packed-undone (freezeListOf image list out .reply) (freezes-below image list out);
   jeghatuf-snapshot = λ image out b. packed-undone (snapshotOf image out .reply) (snapshot-below image b out);
   jeghatuf-downgrade = λ image level out b. packed-undone (downgradeOf image level out .reply) (downgrade-below image b level out);
   jeghatuf-throttle = λ image node kind. counted-undone (throttleOf image node kind) (omega (arith, throttle-once image node kind));

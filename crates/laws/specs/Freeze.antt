@@ -1,9 +1,10 @@
 -- The freeze of a name: an internal name has none, a literal scope beats every prefix, and a prefix is found only where no longer one is.
-use mathlib.Core.Path.{_≡_}
+use mathlib.Core.Path.{_≡_, refl, sym, ap, _∙_}
 use mathlib.Core.Bool.{true, false}
-use mathlib.Core.List.{[], _∷_, _++_}
+use mathlib.Core.List.{[], _∷_, _++_, append-assoc}
 use mathlib.Core.Option.{Option, none, some}
 use Prim.Native.Nat.{ℕ}
+use borrow.Author.Tests.{eq-eqb}
 use Rattle.model.specs.Number.{Bytes}
 use Rattle.model.specs.Record.{Rec}
 use Rattle.model.specs.Lookup.{beginsWith, internal, literal, prefixed, longestBy, freezeBy}
@@ -44,3 +45,19 @@ pub freeze-same : (find other : Bytes → Bytes → Option Rec) → ((pattern sc
     → (name : Bytes) → freezeBy find name ≡ freezeBy other name
 unfolding freezeBy
 freeze-same find other h name = rw (h literal name, longest-same (find prefixed) (other prefixed) (h prefixed) [] name)
+
+pub begins-append : (s t : Bytes) → beginsWith s (s ++ t) ≡ true
+unfolding beginsWith
+begins-append [] t = refl
+begins-append (a ∷ s) t = rw (eq-eqb a a refl) (begins-append s t)
+
+-- the longest prefix depends on what is found of the name's beginnings alone
+pub longest-on : (find other : Bytes → Option Rec) (name : Bytes) → ((s : Bytes) → beginsWith s name ≡ true → find s ≡ other s)
+    → (before rest : Bytes) → before ++ rest ≡ name → longestBy find before rest ≡ longestBy other before rest
+unfolding longestBy
+longest-on find other name h before [] e = h before (ap (beginsWith before) (sym e) ∙ begins-append before [])
+longest-on find other name h before (b ∷ rest) e =
+    rw (
+      longest-on find other name h (before ++ (b ∷ [])) rest (append-assoc before (b ∷ []) rest ∙ e),
+      h before (ap (beginsWith before) (sym e) ∙ begins-append before (b ∷ rest)),
+    )

@@ -15,6 +15,8 @@ use Rattle.model.specs.declared.answers.RunAnswer.{RunAnswer}
 use Rattle.model.specs.declared.answers.RunAnswer.the-variants.{Written, Refused as NotWritten, Stopped as NotRead}
 use Rattle.model.specs.declared.answers.Separated.{Separated}
 use Rattle.model.specs.declared.answers.Separated.the-variants.{Written as Both, Refused as Neither, Stopped as NotSeparated}
+use Rattle.model.specs.declared.answers.Counted.{Counted}
+use Rattle.model.specs.declared.answers.Counted.the-variants.{Written as WithCount, Refused as NoCount}
 
 -- Open, Validate, Apply: a number alone, 0 where it is accepted
 abbrev pub numberReply : ℕ → Reply
@@ -52,3 +54,8 @@ abbrev pub separateReply : Separated → Reply
 separateReply (Both n offset) = accepted (n ∷ offset ∷ [])
 separateReply (Neither n) = refused n
 separateReply (NotSeparated n at) = record { number = n; values = at ∷ [] }
+
+-- the freezes of a list: the bytes written, then the freezes read
+abbrev pub countReply : Counted → Reply
+countReply (WithCount n read) = accepted (n ∷ read ∷ [])
+countReply (NoCount n) = refused n

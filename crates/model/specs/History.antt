@@ -23,6 +23,7 @@ use Rattle.model.specs.Validate.{validateOf}
 use Rattle.model.specs.Apply.{applyOf}
 use Rattle.model.specs.Snapshot.{snapshotOf, restoreOf, restored}
 use Rattle.model.specs.Lookup.{topicByName, topicById, partitionOf, brokerOf, epochOf, offsetOf, shortOf, freezeOf, throttleOf}
+use Rattle.model.specs.FreezeList.{freezeListOf}
 use Rattle.model.specs.Downgrade.{downgradeOf}
 use Rattle.model.specs.Reply.{Reply, accepted, Ended}
 use Rattle.model.specs.declared.Kind.the-variants.{FeaturesEpoch}
@@ -42,6 +43,8 @@ pub data Step : Type 0 where
   askOffset : Step
   askShort : Step
   askFreeze : Bytes → Bytes → Step
+  -- a list of names and an output
+  askFreezes : Bytes → Bytes → Step
   askThrottle : ℕ → ℕ → Step
   -- the listing for a level, and a snapshot, each with an output
   askDowngrade : ℕ → Bytes → Step
@@ -91,6 +94,7 @@ answer askEpoch image = said (epochOf image) ∷ []
 answer askOffset image = said (offsetOf image) ∷ []
 answer askShort image = said (shortOf image) ∷ []
 answer (askFreeze name out) image = wrote (freezeOf image name out) ∷ []
+answer (askFreezes list out) image = wrote (freezeListOf image list out) ∷ []
 answer (askThrottle node which) image = said (throttleOf image node which) ∷ []
 answer (askDowngrade level out) image = wrote (downgradeOf image level out) ∷ []
 answer (snap out) image = wrote (snapshotOf image out) ∷ []
@@ -107,6 +111,7 @@ after askEpoch image = image
 after askOffset image = image
 after askShort image = image
 after (askFreeze name out) image = image
+after (askFreezes list out) image = image
 after (askThrottle node which) image = image
 after (askDowngrade level out) image = image
 after (snap out) image = image
@@ -123,6 +128,7 @@ onGiven a f askEpoch = a
 onGiven a f askOffset = a
 onGiven a f askShort = a
 onGiven a f (askFreeze name out) = a
+onGiven a f (askFreezes list out) = a
 onGiven a f (askThrottle node which) = a
 onGiven a f (askDowngrade level out) = a
 onGiven a f (snap out) = a
@@ -149,6 +155,7 @@ isCut askEpoch = false
 isCut askOffset = false
 isCut askShort = false
 isCut (askFreeze name out) = false
+isCut (askFreezes list out) = false
 isCut (askThrottle node which) = false
 isCut (askDowngrade level out) = false
 isCut (snap out) = false
@@ -233,6 +240,7 @@ StepGiven capacity askEpoch = Unit {0}
 StepGiven capacity askOffset = Unit {0}
 StepGiven capacity askShort = Unit {0}
 StepGiven capacity (askFreeze name out) = Unit {0}
+StepGiven capacity (askFreezes list out) = Unit {0}
 StepGiven capacity (askThrottle node which) = Unit {0}
 StepGiven capacity (askDowngrade level out) = Unit {0}
 StepGiven capacity (snap out) = Unit {0}

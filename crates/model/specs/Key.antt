@@ -142,3 +142,10 @@ unfoldable pub startsWith : Key → Key → Bool
 startsWith [] k = true
 startsWith (p ∷ g) [] = false
 startsWith (p ∷ g) (q ∷ k) = sameBytes p q && startsWith g k
+
+-- a freeze's scope
+unfoldable pub keyScope : Key → Bytes
+keyScope [] = []
+keyScope (p ∷ []) = []
+keyScope (p ∷ q ∷ []) = []
+keyScope (p ∷ q ∷ r ∷ k) = r

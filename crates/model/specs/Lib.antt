@@ -42,6 +42,8 @@
 --                                                           Lookup.offsetOf; History.CutsUnseen: cut histories agree on it; OffsetOfLast
 --   6, snapshots from last season ......................... Convert.withOffsetOf, withoutOffsetOf, OldNewOld, NewOldNew
 --   14, the freeze, from the log alone .................... LogFreeze.lastFreeze, logFreezeOf, FreezeFromLog
+--   4, the freezes of a whole job list .................... Names.namesOf, FreezeList.freezeIndex, freezesRead, freezeListOf; IndexNamesFreeze,
+--                                                           IndexesApart, ReadAtMostOnce, UnreadUnseen
 pub mod Choice
 pub mod Number
 pub mod Text
@@ -63,7 +65,9 @@ pub mod Validate
 pub mod Apply
 pub mod Snapshot
 pub mod Quotas
+pub mod Names
 pub mod Lookup
+pub mod FreezeList
 pub mod Downgrade
 pub mod History
 pub mod Convert

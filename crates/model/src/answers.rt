@@ -39,3 +39,9 @@ pub enum Separated {
     Refused(u8),
     Stopped(u8, usize),
 }
+
+// Bytes written with a count beside them, or a refusal's number.
+pub enum Counted {
+    Written(usize, u64),
+    Refused(u8),
+}

@@ -1,7 +1,7 @@
 -- A reply in one number, and values that are too wide for that: they go to the first places of a lent list.
 use mathlib.Core.List.{List, [], _∷_}
 use Prim.Native.Nat.{ℕ, _+_, _*_, _/_, _%_}
-use lib.ListN.{length}
+use lib.ListN.{length, drop}
 use Rattle.model.specs.Reply.{Reply}
 use Rattle.model.specs.History.{firstValue}
 
@@ -23,6 +23,10 @@ firstIs (v ∷ vs) (x ∷ l) = v ∷ l
 
 abbrev pub widened : Reply → List ℕ → List ℕ
 widened r l = firstIs (r .values) l
+
+-- the value after the first
+abbrev pub beside : Reply → List ℕ → List ℕ
+beside r l = firstIs (drop 1 (r .values)) l
 
 -- as many values as a list has places for, from the first on
 abbrev pub filled : List ℕ → List ℕ → List ℕ

@@ -3,6 +3,7 @@
 
 mod changes;
 mod conversions;
+mod freezes;
 mod logs;
 mod lookups;
 mod numbers;
@@ -19,6 +20,7 @@ pub use page::Page;
 
 use crate::images::Full;
 use conversions::Conversion;
+use freezes::{Freezes, Subjects};
 use logs::Log;
 use records::Record;
 use rows::Row;
@@ -40,12 +42,14 @@ pub struct Figures {
     conversions: [Conversion; 2],
     worst: Vec<Worst>,
     logs: Vec<Log>,
+    freezes: Vec<Freezes>,
 }
 
 impl Figures {
     /// Takes about two minutes, and says on the way where it is.
     pub fn measure() -> Self {
         let images = SIZES.map(Full::of);
+        let frozen = Subjects::new();
         let passes = (1..=PASSES).map(|pass| {
             eprintln!("pass {pass} of {PASSES}");
             Self {
@@ -55,6 +59,7 @@ impl Figures {
                 conversions: conversions::measure(&images[SIZES.len() - 1]),
                 worst: worst::measure(&images[SIZES.len() - 1]),
                 logs: logs::measure(&images[SIZES.len() - 1]),
+                freezes: frozen.measure(),
             }
         });
         passes.reduce(Self::best).expect("a pass")
@@ -68,6 +73,7 @@ impl Figures {
         let [new, old] = &other.conversions;
         let worst = self.worst.into_iter().zip(other.worst);
         let logs = self.logs.into_iter().zip(other.logs);
+        let freezes = self.freezes.into_iter().zip(other.freezes);
         Self {
             counts: self.counts,
             rows: rows.map(|(one, other)| one.best(&other)).collect(),
@@ -75,6 +81,7 @@ impl Figures {
             conversions: [to_new.best(new), to_old.best(old)],
             worst: worst.map(|(one, other)| one.best(&other)).collect(),
             logs: logs.map(|(one, other)| one.best(&other)).collect(),
+            freezes: freezes.map(|(one, other)| one.best(&other)).collect(),
         }
     }
 

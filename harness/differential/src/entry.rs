@@ -4,6 +4,8 @@
 #[cfg(feature = "images")]
 mod conversions;
 #[cfg(feature = "images")]
+mod freezes;
+#[cfg(feature = "images")]
 mod images;
 #[cfg(feature = "images")]
 mod logs;
@@ -12,6 +14,8 @@ mod restarts;
 
 #[cfg(feature = "images")]
 pub use conversions::*;
+#[cfg(feature = "images")]
+pub use freezes::*;
 #[cfg(feature = "images")]
 pub use images::*;
 #[cfg(feature = "images")]

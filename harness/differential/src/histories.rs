@@ -6,6 +6,7 @@ mod conversions;
 mod course;
 mod cuts;
 mod drawn;
+mod freezes;
 mod logs;
 mod no_image;
 mod offsets;
@@ -20,6 +21,7 @@ mod short;
 pub use conversions::{compare_conversions, compare_named_conversions, new_form, old_form};
 pub use cuts::compare_cuts;
 pub use drawn::compare_drawn;
+pub use freezes::{compare_freezes, compare_named_freezes, compare_short_freezes};
 pub use logs::{compare_logs, compare_named_logs};
 pub use no_image::compare_no_image;
 pub use offsets::compare_offsets;
@@ -28,8 +30,12 @@ pub use quotas::{compare_named_quotas, compare_quotas};
 pub use short::compare_short;
 
 use course::Course;
+use wire::Random;
 
 use crate::images::{Compared, Tally};
+
+/// The most bytes that an output is longer than it must be.
+const LONGER: usize = 40;
 
 /// What is given to a buffer after Open, one after the other.
 struct History {
@@ -54,6 +60,28 @@ impl History {
             course.take(tally, input, self.validated)?;
         }
         Ok(course)
+    }
+
+    /// Takes all steps, and compares behind each. A difference comes with the
+    /// inputs up to there.
+    fn along(&self, mut behind: impl FnMut(&Course) -> Compared) -> Result<Course, String> {
+        let mut course = Course::open(&mut Tally::default(), self.capacity)?;
+        for (place, input) in self.inputs.iter().enumerate() {
+            course
+                .take(&mut Tally::default(), input, self.validated)
+                .and_then(|_| behind(&course))
+                .map_err(|difference| self.tell(&difference, place))?;
+        }
+        Ok(course)
+    }
+
+    fn tell(&self, difference: &str, place: usize) -> String {
+        let inputs: String = self.inputs[..=place]
+            .iter()
+            .map(|input| told(input))
+            .collect();
+        let capacity = self.capacity;
+        format!("{difference}\nat capacity {capacity}, after these:\n{inputs}")
     }
 
     /// Leaves inputs out as long as there is a difference.
@@ -97,4 +125,14 @@ fn expect(tally: &mut Tally, what: &'static str, number: u8, expected: u8) -> Co
         true => Ok(()),
         false => Err(format!("{what} says {number}, expected is {expected}")),
     }
+}
+
+/// The lengths of outputs: one byte too few where there can be, as many as are
+/// wanted, and more.
+fn rooms(random: &mut Random, wanted: usize) -> [usize; 3] {
+    [
+        wanted.saturating_sub(1),
+        wanted,
+        wanted + random.below(LONGER),
+    ]
 }

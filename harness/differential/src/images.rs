@@ -21,6 +21,7 @@ pub use buffers::compare_random;
 pub use cases::compare_cases;
 pub(crate) use exact::shown;
 pub use full::Full;
+pub(crate) use full::{FROZEN, plan_name};
 pub use history::compare_history;
 pub use listings::compare_listing;
 pub use moves::compare_moves;

@@ -1,12 +1,13 @@
 //! The reference's answers in the scope paper's (01's) terms: what an image
 //! holds, in 01's order, and its bytes; whether bytes are an image; verdicts as
-//! 01's numbers; the listing for a downgrade;
+//! 01's numbers; the listing for a downgrade; the freezes of a list of names;
 //! generated histories; the stored histories of crates/test_replay; facts.
 
 pub mod cases;
 pub mod downgrade;
 pub mod exact;
 pub mod facts;
+pub mod freeze_list;
 pub mod generate;
 pub mod held;
 pub mod image;

@@ -1,6 +1,7 @@
 //! The tables of the figures, in Markdown.
 
 use super::conversions::Conversion;
+use super::freezes::Freezes;
 use super::logs::Log;
 use super::numbers::{ratio, size, time};
 use super::records::Record;
@@ -25,6 +26,9 @@ pub fn tables(figures: &Figures) -> String {
         "The freeze of a name from a run of records, beside other calls of the library:\n"
             .to_owned(),
         logs(&figures.logs),
+        "The freezes of a list of 256 names on full images of 64 KB, by how many freezes these have:\n"
+            .to_owned(),
+        freezes(&figures.freezes),
     ]
     .join("\n")
 }
@@ -124,6 +128,24 @@ fn logs(logs: &[Log]) -> String {
         ]
     });
     table(head, 2, rows)
+}
+
+fn freezes(freezes: &[Freezes]) -> String {
+    let head = "freezes | 256 names | one lookup | list/lookup | 256 lookups | \
+                256 of the Rust's `topic_freeze` | proved/Rust";
+    let rows = freezes.iter().map(|list| {
+        let Freezes { times, single, .. } = list;
+        vec![
+            list.name.clone(),
+            time(times.proved),
+            time(*single),
+            ratio(times.proved / single),
+            time(list.singles),
+            time(times.rust),
+            ratio(times.ratio()),
+        ]
+    });
+    table(head, 1, rows)
 }
 
 /// The first columns, so many as `words` says, hold words, the others numbers.

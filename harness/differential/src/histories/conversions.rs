@@ -8,12 +8,10 @@ use wire::{LOG_OFFSET, NO_RECORD, Random, TOO_SHORT, encoded_offset, hex, read, 
 use super::course::Course;
 use super::drawn::{Drawn, capacities};
 use super::runs::to_restore;
-use super::told;
+use super::{History, rooms};
 use crate::images::{Compared, Tally};
 use crate::{Refusal, with_offset, without_offset};
 
-/// The most bytes that an output is longer than it must be.
-const LONGER: usize = 40;
 /// Both ends, and both sides of the least offset that is taken.
 const OFFSETS: [i64; 7] = [i64::MIN, i64::MIN + 1, -2, NO_RECORD, 0, 1, i64::MAX];
 
@@ -23,24 +21,16 @@ pub fn compare_conversions(tally: &mut Tally, seed: u64) -> Compared {
     let mut random = Random::new(seed ^ 0x0F0);
     let drawn = Drawn::of(&mut random, seed);
     let capacities = capacities(&mut random, drawn.reached);
-    let capacity = capacities[random.below(capacities.len())];
-    let mut course = Course::open(&mut Tally::default(), capacity)?;
-    for (place, input) in drawn.inputs.iter().enumerate() {
-        course
-            .take(&mut Tally::default(), input, drawn.validated)
-            .and_then(|_| compare_snapshot(tally, &mut random, &course))
-            .map_err(|difference| tell(&difference, capacity, &drawn.inputs[..=place]))?;
-    }
+    let history = History {
+        capacity: random.pick(&capacities),
+        validated: drawn.validated,
+        inputs: drawn.inputs,
+    };
+    let course = history.along(|course| compare_snapshot(tally, &mut random, course))?;
     let snapshot = course.expected_snapshot();
-    to_restore(&mut random, &snapshot, &drawn.inputs)
+    to_restore(&mut random, &snapshot, &history.inputs)
         .iter()
         .try_for_each(|run| compare_any(tally, &mut random, run))
-}
-
-fn tell(difference: &str, capacity: usize, inputs: &[Vec<u8>]) -> String {
-    let inputs: Vec<String> = inputs.iter().map(|input| told(input)).collect();
-    let inputs = inputs.concat();
-    format!("{difference}\nat capacity {capacity}, after these:\n{inputs}")
 }
 
 /// Runs of known standing: none, kind 26 alone, torn, twice, late, below -1 and
@@ -150,15 +140,6 @@ fn compare_without(tally: &mut Tally, random: &mut Random, run: &[u8]) -> Compar
         held(tally, "without an offset", &answer, &expected)?;
     }
     Ok(())
-}
-
-/// One byte too few where there can be, as many as are wanted, and more.
-fn rooms(random: &mut Random, wanted: usize) -> [usize; 3] {
-    [
-        wanted.saturating_sub(1),
-        wanted,
-        wanted + random.below(LONGER),
-    ]
 }
 
 /// What an operation says and leaves: the bytes written and the whole output. A

@@ -1,7 +1,7 @@
 //! Histories drawn from a seed.
 
 use krabka_metadata::{MetadataImage, MetadataRecord};
-use oracle::generate::Generator;
+use oracle::generate::{Generator, Knobs};
 use oracle::held::is_held;
 use oracle::image::{FIXED_ROOM, MOST_CAPACITY, weight};
 use wire::{Random, damaged, encoded};
@@ -53,7 +53,10 @@ pub struct Drawn {
 
 impl Drawn {
     pub fn of(random: &mut Random, seed: u64) -> Self {
-        let knobs = knobs(seed);
+        Self::by(random, seed, knobs(seed))
+    }
+
+    pub fn by(random: &mut Random, seed: u64, knobs: Knobs) -> Self {
         let mut generator = Generator::new(seed, knobs);
         let mut reference = Reference::new();
         let mut drawn = Self {

@@ -47,14 +47,19 @@ pub fn compare_near(
     inputs: &[Vec<u8>],
 ) -> Compared {
     for _ in 0..DRAWS {
-        let mut buffer = course.buffer.clone();
-        let place = place(random, &buffer);
-        buffer[place] ^= 1 << random.below(8);
-        if !is_image(&buffer) {
+        if let Some(buffer) = near(random, &course.buffer) {
             compare(tally, &buffer, &inputs[random.below(inputs.len())])?;
         }
     }
     Ok(())
+}
+
+/// An image with a byte changed, where that makes it none.
+pub fn near(random: &mut Random, image: &[u8]) -> Option<Vec<u8>> {
+    let mut buffer = image.to_vec();
+    let place = place(random, &buffer);
+    buffer[place] ^= 1 << random.below(8);
+    Some(buffer).filter(|buffer| !is_image(buffer))
 }
 
 /// Mostly in the used part: a byte changed after it is never an image.

@@ -1,13 +1,14 @@
 //! Every question that an image answers, as a value.
 
 use krabka_metadata::MetadataImage;
+use oracle::freeze_list::{MOST_NAMES, list};
 use oracle::observe::Observed;
 
 use super::lookups::queries;
 use super::rules::{LEVELS, frozen_names, throttled_nodes};
 use crate::{
-    broker, downgrade, features_epoch, freeze, log_offset, partition, short_count, snapshot,
-    throttle, topic, topic_by_id,
+    broker, downgrade, features_epoch, freeze, freezes, log_offset, partition, short_count,
+    snapshot, throttle, topic, topic_by_id,
 };
 
 /// The number or the bytes written, the output's end, and the values' end.
@@ -26,6 +27,8 @@ pub enum Question {
     Offset,
     Short,
     Freeze(String),
+    /// Of a list of names.
+    Freezes(Vec<u8>),
     Throttle(u64, u8),
     Downgrade(i16),
     Snapshot,
@@ -40,7 +43,9 @@ pub fn questions(image: &MetadataImage, observed: &Observed) -> Vec<Question> {
     let places = queries::partitions(image).into_iter();
     all.extend(places.map(|(name, number)| Partition(name, number)));
     all.extend(queries::nodes(image).into_iter().map(Broker));
-    all.extend(frozen_names(image).into_iter().map(Freeze));
+    let names: Vec<String> = frozen_names(image).into_iter().collect();
+    all.push(Freezes(list(&names[..names.len().min(MOST_NAMES)])));
+    all.extend(names.into_iter().map(Freeze));
     for node in throttled_nodes(image, observed) {
         all.extend([0, 1, 2, 3].map(|kind| Throttle(node, kind)));
     }
@@ -62,6 +67,7 @@ impl Question {
             Self::Offset => log_offset(image, &mut values),
             Self::Short => short_count(image),
             Self::Freeze(name) => freeze(image, name.as_bytes(), &mut out),
+            Self::Freezes(list) => freezes(image, list, &mut out, &mut values),
             Self::Throttle(node, kind) => throttle(image, *node, *kind, &mut values),
             Self::Downgrade(level) => downgrade(image, *level, &mut out),
             Self::Snapshot => snapshot(image, &mut out),

@@ -12,7 +12,7 @@ use super::subject::Subject;
 const BROKERS: u64 = 3;
 const THROTTLE: &str = "leader.replication.throttled.rate";
 /// A prefix of every plan's name.
-const FROZEN: &str = "plan-";
+pub const FROZEN: &str = "plan-";
 
 /// An image with as many plans as its capacity takes.
 pub struct Full {
@@ -26,8 +26,15 @@ pub struct Full {
 }
 
 impl Full {
+    /// With one freeze, of all plans.
     pub fn of(capacity: usize) -> Self {
-        let plans = (1..).find(|plans| !fits(plans + 1, capacity));
+        Self::frozen(capacity, &[freeze(FROZEN, PatternType::Prefixed)])
+    }
+
+    /// With these freezes.
+    pub fn frozen(capacity: usize, freezes: &[MetadataRecord]) -> Self {
+        let records = |plans| records(freezes, plans);
+        let plans = (1..).find(|plans| !fits(&records(plans + 1), capacity));
         let plans = plans.expect("a capacity has an end");
         let subject = Subject::of(&records(plans));
         let bytes = image(&subject.observed, capacity).expect("contents that fit");
@@ -35,29 +42,27 @@ impl Full {
             bytes,
             image: subject.image,
             offset: subject.observed.offset,
-            name: name(plans / 2),
+            name: plan_name(plans / 2),
             id: id(plans / 2),
         }
     }
 }
 
-fn fits(plans: u64, capacity: usize) -> bool {
-    let image = MetadataImage::from_records(Uuid::nil(), &records(plans));
+fn fits(records: &[MetadataRecord], capacity: usize) -> bool {
+    let image = MetadataImage::from_records(Uuid::nil(), records);
     weight(&observe(&image, &Witness::default())) <= capacity
 }
 
-fn name(plan: u64) -> String {
+pub fn plan_name(plan: u64) -> String {
     format!("plan-{plan:04}")
 }
 
-fn records(plans: u64) -> Vec<MetadataRecord> {
+fn records(freezes: &[MetadataRecord], plans: u64) -> Vec<MetadataRecord> {
     let brokers = (1..=BROKERS).map(|node| MetadataRecord::V1BrokerRegistration(broker(node, 1)));
-    let rules = [
-        broker_config(2, THROTTLE, Some("1048576")),
-        freeze(FROZEN, PatternType::Prefixed),
-    ];
+    let throttle = broker_config(2, THROTTLE, Some("1048576"));
+    let rules = [throttle].into_iter().chain(freezes.iter().cloned());
     let plans = (0..plans).flat_map(|plan| {
-        let name = name(plan);
+        let name = plan_name(plan);
         [
             topic(&name, plan, 0, 3),
             MetadataRecord::V1Partition(sheet(&name, 0)),

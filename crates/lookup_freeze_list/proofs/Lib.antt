@@ -1,0 +1,5 @@
+pub mod Stored
+pub mod Passes
+pub mod Walks
+pub mod Indexes
+pub mod Answers

@@ -1,0 +1,5 @@
+pub mod Scopes
+pub mod Onward
+pub mod Fitting
+pub mod Written
+pub mod Marking
