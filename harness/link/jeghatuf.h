@@ -131,6 +131,28 @@ uint64_t jeghatuf_freezes(const uint8_t *image, size_t image_len, const uint8_t 
 uint64_t jeghatuf_log_freeze(const uint8_t *run, size_t run_len, const uint8_t *name, size_t name_len,
                              uint8_t *out, size_t out_len, uint64_t *value, size_t value_len);
 
+/* A viewer's part of an image. Its prefixes are up to 8 strings of UTF-8, each a
+ * length of two bytes, the higher one first, and at most 255 bytes, in any order.
+ * A name is visible where it begins with one of them. */
+
+/* Writes the topics, partitions, offsets, ELR, recovery and topic configs under
+ * visible names, in the order of a snapshot, without a log offset. The bytes
+ * written. */
+uint64_t jeghatuf_view_snapshot(const uint8_t *image, size_t image_len, const uint8_t *prefixes,
+                                size_t prefixes_len, uint8_t *out, size_t out_len);
+
+/* The topic, the partition, and the freeze of a name, as the lookups above; 25
+ * where the name is not visible, whether or not it exists. */
+uint64_t jeghatuf_view_topic(const uint8_t *image, size_t image_len, const uint8_t *prefixes,
+                             size_t prefixes_len, const uint8_t *name, size_t name_len, uint8_t *out,
+                             size_t out_len);
+uint64_t jeghatuf_view_partition(const uint8_t *image, size_t image_len, const uint8_t *prefixes,
+                                 size_t prefixes_len, const uint8_t *name, size_t name_len,
+                                 uint32_t number, uint8_t *out, size_t out_len);
+uint64_t jeghatuf_view_freeze(const uint8_t *image, size_t image_len, const uint8_t *prefixes,
+                              size_t prefixes_len, const uint8_t *name, size_t name_len, uint8_t *out,
+                              size_t out_len);
+
 /* Puts a node's throttle into value[0], in bytes a second; the kinds are 0 for
  * the leader's, 1 for the follower's, 2 between log directories. The value is 1,
  * or 0 where there is no throttle. */

@@ -1,3 +1,2 @@
 pub mod ByKind
-pub mod Passes
 pub mod Emits

@@ -1,6 +1,7 @@
 -- Which entries stand under a topic: those of six groups, by the name that their keys begin with.
 use mathlib.Core.Path.{_≡_, refl, ap, _∙_}
 use mathlib.Core.Bool.{Bool, true, not}
+use mathlib.Core.Option.{none, some}
 use Prim.Native.Nat.{ℕ, _≤_, _<_}
 use native.Mathlib.Omega.{arith}
 use borrow.Author.Tests.{le-leb, lt-leb}
@@ -45,22 +46,22 @@ name-of BrokerRegistrationChange r low high = absurd (omega arith)
 name-of UnregisterController r low high = absurd (omega arith)
 name-of LogOffset r low high = absurd (omega arith)
 
-module _ (name : Bytes) (k : Kind) (r : Run) where
-  low-apart : rank k < 4 → true ≡ apartFrom name (keyOf k r)
-  unfolding apartFrom topicOf keyRank keyOf rank
-  low-apart h = rw (lt-leb 4 (rank k) h)
+module _ (k : Kind) (r : Run) where
+  low-topic : rank k < 4 → topicOf (keyOf k r) ≡ none
+  unfolding topicOf keyRank keyOf rank
+  low-topic h = rw (lt-leb 4 (rank k) h)
 
-  high-apart : 9 < rank k → true ≡ apartFrom name (keyOf k r)
-  unfolding apartFrom topicOf keyRank keyOf rank
-  high-apart h = rw (le-leb 4 (rank k) (omega arith), lt-leb (rank k) 9 h)
+  high-topic : 9 < rank k → topicOf (keyOf k r) ≡ none
+  unfolding topicOf keyRank keyOf rank
+  high-topic h = rw (le-leb 4 (rank k) (omega arith), lt-leb (rank k) 9 h)
 
-  named-apart : 4 ≤ rank k → rank k ≤ 9 → not (sameBytes (value 1 r) name) ≡ apartFrom name (keyOf k r)
-  unfolding apartFrom topicOf keyRank keyOf rank
-  named-apart low high = rw (le-leb 4 (rank k) low, le-leb (rank k) 9 high, name-of k r low high)
+  named-topic : 4 ≤ rank k → rank k ≤ 9 → topicOf (keyOf k r) ≡ some (value 1 r)
+  unfolding topicOf keyRank keyOf rank
+  named-topic low high = rw (le-leb 4 (rank k) low, le-leb (rank k) 9 high, name-of k r low high)
 
 -- 2. By an entry's bytes
 
-module _ (name s : Bytes) (keyed : Keyed s) (n : ℕ) (e : n ≡ rankOf (kindIn s)) where
+module _ (s : Bytes) (keyed : Keyed s) (n : ℕ) (e : n ≡ rankOf (kindIn s)) where
   key-of : keyIn s ≡ keyOf (keyed .kind) (runIn s)
   unfolding keyIn
   key-of = rw (keyed .known)
@@ -69,13 +70,26 @@ module _ (name s : Bytes) (keyed : Keyed s) (n : ℕ) (e : n ≡ rankOf (kindIn 
   unfolding rankOf
   rank-is = e ∙ rw (keyed .known)
 
-  pub apart-low : n < 4 → true ≡ apartFrom name (keyIn s)
-  apart-low h = rw key-of (low-apart name (keyed .kind) (runIn s) (omega (arith, rank-is)))
+  pub topic-low : n < 4 → topicOf (keyIn s) ≡ none
+  topic-low h = rw key-of (low-topic (keyed .kind) (runIn s) (omega (arith, rank-is)))
 
-  pub apart-high : 9 < n → true ≡ apartFrom name (keyIn s)
-  apart-high h = rw key-of (high-apart name (keyed .kind) (runIn s) (omega (arith, rank-is)))
+  pub topic-high : 9 < n → topicOf (keyIn s) ≡ none
+  topic-high h = rw key-of (high-topic (keyed .kind) (runIn s) (omega (arith, rank-is)))
 
-  pub apart-named : 4 ≤ n → n ≤ 9 → (v : Bytes) (b : Bool) → v ≡ value 1 (runIn s) → b ≡ sameBytes v name → not b ≡ apartFrom name (keyIn s)
-  apart-named low high v b is same =
-      ap not (same ∙ ap (λ x. sameBytes x name) is)
-      ∙ rw key-of (named-apart name (keyed .kind) (runIn s) (omega (arith, rank-is)) (omega (arith, rank-is)))
+  pub topic-named : 4 ≤ n → n ≤ 9 → topicOf (keyIn s) ≡ some (value 1 (runIn s))
+  topic-named low high = rw key-of (named-topic (keyed .kind) (runIn s) (omega (arith, rank-is)) (omega (arith, rank-is)))
+
+  -- 3. Apart from a topic
+
+  module _ (name : Bytes) where
+    pub apart-low : n < 4 → true ≡ apartFrom name (keyIn s)
+    unfolding apartFrom
+    apart-low h = rw (topic-low h)
+
+    pub apart-high : 9 < n → true ≡ apartFrom name (keyIn s)
+    unfolding apartFrom
+    apart-high h = rw (topic-high h)
+
+    pub apart-named : 4 ≤ n → n ≤ 9 → (v : Bytes) (b : Bool) → v ≡ value 1 (runIn s) → b ≡ sameBytes v name → not b ≡ apartFrom name (keyIn s)
+    unfolding apartFrom
+    apart-named low high v b is same = rw (topic-named low high) (ap not (same ∙ ap (λ x. sameBytes x name) is))

@@ -9,3 +9,4 @@ pub mod Logged
 pub mod Queries
 pub mod Held
 pub mod Epochs
+pub mod Passes

@@ -10,6 +10,7 @@ use Rattle.model.specs.Snapshot.{body, snapshot, snapshotOf}
 use Rattle.model.specs.Validate.{validateOf}
 use Rattle.model.specs.Lookup.{topicByName, topicById, partitionOf, brokerOf, epochOf, offsetOf, shortOf, freezeOf, throttleOf}
 use Rattle.model.specs.FreezeList.{freezeListOf}
+use Rattle.model.specs.View.{Query, whole, topic, partition, freeze, viewOf, viewerFault, queryFault, viewSnapshotOf, viewTopicOf, viewPartitionOf, viewFreezeOf}
 use Rattle.model.specs.Downgrade.{downgrade, downgradeOf}
 use Rattle.history.specs.Like.{Like}
 
@@ -67,6 +68,13 @@ module _ (u c : Bytes) (a : Alike u c) where
   pub same-freezes : (list out : Bytes) → freezeListOf c list out ≡ freezeListOf u list out
   unfolding freezeListOf
   same-freezes list out = rw (a .first, a .second, same-real)
+
+  pub same-view : (q : Query) (list out : Bytes) → viewOf q c list out ≡ viewOf q u list out
+  unfolding viewOf viewerFault queryFault viewSnapshotOf viewTopicOf viewPartitionOf viewFreezeOf
+  same-view whole list out = rw (a .first, a .second, same-real)
+  same-view (topic name) list out = rw (a .first, a .second, same-real)
+  same-view (partition name n) list out = rw (a .first, a .second, same-real)
+  same-view (freeze name) list out = rw (a .first, a .second, same-real)
 
   pub same-throttle : (node which : ℕ) → throttleOf c node which ≡ throttleOf u node which
   unfolding throttleOf

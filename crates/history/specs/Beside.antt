@@ -16,7 +16,7 @@ use Rattle.model.specs.Image.{contentsOf}
 use Rattle.model.specs.Validate.{judge}
 use Rattle.model.specs.Apply.{Applied, stays, becomes, applyOf}
 use Rattle.model.specs.Snapshot.{restored}
-use Rattle.model.specs.History.{Step, give, askTopic, askTopicId, askPartition, askBroker, askEpoch, askOffset, askShort, askFreeze, askFreezes, askThrottle, askDowngrade, snap, cut}
+use Rattle.model.specs.History.{Step, give, askTopic, askTopicId, askPartition, askBroker, askEpoch, askOffset, askShort, askFreeze, askFreezes, view, askThrottle, askDowngrade, snap, cut}
 use Rattle.model.specs.History.{said, wrote, admitted, answer, after, isCut, premises, epochMild, roomLasts, onGiven, epochs, room, meetsAt, StepGiven}
 use Rattle.model.specs.declared.Kind.the-variants.{FeaturesEpoch}
 use Rattle.laws.specs.Choice.{impossible, true-false}
@@ -25,7 +25,7 @@ use Rattle.laws_apply.specs.Apply.{refusalNumber}
 use Rattle.history.specs.Like.{Like}
 use Rattle.history.specs.Good.{Premises, premises-hold, Good, like-restored}
 use Rattle.history.specs.Answers.{Alike, same-topic, same-topic-id, same-partition, same-broker, same-epoch, same-offset, same-short, same-freeze}
-use Rattle.history.specs.Answers.{same-freezes, same-throttle, same-downgrade, same-snapshot-of}
+use Rattle.history.specs.Answers.{same-freezes, same-view, same-throttle, same-downgrade, same-snapshot-of}
 use Rattle.history.specs.Offered.{validated, applied, IsMild, Matched, both-stay, both-become, Next, offered-matched}
 use Rattle.history.specs.Bytes.{fitsOwn, effect, is-read, Image, contents-fit, validate-contents, apply-laid, after-contents}
 use Rattle.history.specs.Bytes.{verdictOf, judged-offered}
@@ -89,6 +89,7 @@ module _ (capacity : ℕ) (u c : Bytes) (iu : Image capacity u) (ic : Image capa
     matched askShort n given h = both-stay 0
     matched (askFreeze name out) n given h = both-stay 0
     matched (askFreezes list out) n given h = both-stay 0
+    matched (view q list out) n given h = both-stay 0
     matched (askThrottle node which) n given h = both-stay 0
     matched (askDowngrade level out) n given h = both-stay 0
     matched (snap out) n given h = both-stay 0
@@ -110,6 +111,7 @@ module _ (capacity : ℕ) (u c : Bytes) (iu : Image capacity u) (ic : Image capa
     same-answer askShort n given h = ap (λ e. said e ∷ []) (same-short u c alike)
     same-answer (askFreeze name out) n given h = ap (λ e. wrote e ∷ []) (same-freeze u c alike name out)
     same-answer (askFreezes list out) n given h = ap (λ e. wrote e ∷ []) (same-freezes u c alike list out)
+    same-answer (view q list out) n given h = ap (λ e. wrote e ∷ []) (same-view u c alike q list out)
     same-answer (askThrottle node which) n given h = ap (λ e. said e ∷ []) (same-throttle u c alike node which)
     same-answer (askDowngrade level out) n given h = ap (λ e. wrote e ∷ []) (same-downgrade u c alike level out)
     same-answer (snap out) n given h = ap (λ e. wrote e ∷ []) (same-snapshot-of u c alike out)

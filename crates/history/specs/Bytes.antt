@@ -16,7 +16,7 @@ use Rattle.model.specs.Validate.{validateOf, judge}
 use Rattle.model.specs.Apply.{Applied, stays, becomes, laid, applyOf}
 use Rattle.model.specs.Snapshot.{emit, snapshot, snapshotOf, restoreOf, restored}
 use Rattle.model.specs.Reply.{refused, accepted, Ended, unchanged, emitBytes}
-use Rattle.model.specs.History.{Step, give, askTopic, askTopicId, askPartition, askBroker, askEpoch, askOffset, askShort, askFreeze, askFreezes, askThrottle, askDowngrade, snap, cut}
+use Rattle.model.specs.History.{Step, give, askTopic, askTopicId, askPartition, askBroker, askEpoch, askOffset, askShort, askFreeze, askFreezes, view, askThrottle, askDowngrade, snap, cut}
 use Rattle.model.specs.History.{Answer, verdict, judged, imageAfter, written, cutImage, after, reached, StepGiven, Given}
 use Rattle.laws_records.specs.Records.{reads, fields-read}
 use Rattle.laws_image.specs.Fits.{Fits}
@@ -47,6 +47,7 @@ effect capacity askOffset c = stays 0
 effect capacity askShort c = stays 0
 effect capacity (askFreeze name out) c = stays 0
 effect capacity (askFreezes list out) c = stays 0
+effect capacity (view q list out) c = stays 0
 effect capacity (askThrottle node which) c = stays 0
 effect capacity (askDowngrade level out) c = stays 0
 effect capacity (snap out) c = stays 0
@@ -80,6 +81,7 @@ module _ (capacity : ℕ) (c : Contents) (fits : Fits capacity c) where
   effect-fits askShort h = fits
   effect-fits (askFreeze name out) h = fits
   effect-fits (askFreezes list out) h = fits
+  effect-fits (view q list out) h = fits
   effect-fits (askThrottle node which) h = fits
   effect-fits (askDowngrade level out) h = fits
   effect-fits (snap out) h = fits
@@ -178,6 +180,7 @@ module _ (capacity : ℕ) (image : Bytes) (h : Image capacity image) where
   after-effect askShort k = refl
   after-effect (askFreeze name out) k = refl
   after-effect (askFreezes list out) k = refl
+  after-effect (view q list out) k = refl
   after-effect (askThrottle node which) k = refl
   after-effect (askDowngrade level out) k = refl
   after-effect (snap out) k = refl

@@ -9,7 +9,7 @@ use Rattle.model.specs.Number.{Bytes}
 use Rattle.model.specs.Image.{isCapacity, imageOf, contentsOf, openOf}
 use Rattle.model.specs.Snapshot.{restored}
 use Rattle.model.specs.Lookup.{offsetOf}
-use Rattle.model.specs.History.{Step, give, askTopic, askTopicId, askPartition, askBroker, askEpoch, askOffset, askShort, askFreeze, askFreezes, askThrottle, askDowngrade, snap, cut}
+use Rattle.model.specs.History.{Step, give, askTopic, askTopicId, askPartition, askBroker, askEpoch, askOffset, askShort, askFreeze, askFreezes, view, askThrottle, askDowngrade, snap, cut}
 use Rattle.model.specs.History.{cutImage, answer, after, run, reached, isCut, uncut, idsApart, factorHolds, premises, StepGiven, Given}
 use Rattle.model.specs.History.{Premise, ids, factors, epochs, room, meetsAt, meets, holds}
 use Rattle.model.specs.History.{CutsUnseen, CutBecomesRestored, CutAnywhere, ReachedIsImage}
@@ -54,6 +54,7 @@ cut-or-not askOffset = not-cut refl
 cut-or-not askShort = not-cut refl
 cut-or-not (askFreeze name out) = not-cut refl
 cut-or-not (askFreezes list out) = not-cut refl
+cut-or-not (view q list out) = not-cut refl
 cut-or-not (askThrottle node which) = not-cut refl
 cut-or-not (askDowngrade level out) = not-cut refl
 cut-or-not (snap out) = not-cut refl

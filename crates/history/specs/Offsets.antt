@@ -16,7 +16,7 @@ use Rattle.model.specs.Image.{contentsOf, openOf}
 use Rattle.model.specs.Apply.{Applied, stays, becomes, apply, datedBy, isLater, applyAt, laid}
 use Rattle.model.specs.Snapshot.{restored}
 use Rattle.model.specs.Lookup.{offsetOf}
-use Rattle.model.specs.History.{Step, give, askTopic, askTopicId, askPartition, askBroker, askEpoch, askOffset, askShort, askFreeze, askFreezes, askThrottle, askDowngrade, snap, cut}
+use Rattle.model.specs.History.{Step, give, askTopic, askTopicId, askPartition, askBroker, askEpoch, askOffset, askShort, askFreeze, askFreezes, view, askThrottle, askDowngrade, snap, cut}
 use Rattle.model.specs.History.{after, onGiven, reached, StepGiven, Given, offsetAfter, lastApplied, OffsetOfLast}
 use Rattle.laws_records.specs.Records.{read-nonzero}
 use Rattle.laws_image.specs.Open.{open-image}
@@ -83,6 +83,7 @@ module _ (capacity : ℕ) (image : Bytes) (h : Image capacity image) where
   step-offset askShort = refl
   step-offset (askFreeze name out) = refl
   step-offset (askFreezes list out) = refl
+  step-offset (view q list out) = refl
   step-offset (askThrottle node which) = refl
   step-offset (askDowngrade level out) = refl
   step-offset (snap out) = refl

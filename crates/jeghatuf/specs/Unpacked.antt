@@ -18,11 +18,13 @@ use Rattle.model.specs.Convert.{withOffsetOf, withoutOffsetOf}
 use Rattle.model.specs.Lookup.{topicByName, topicById, partitionOf, brokerOf, epochOf, offsetOf, shortOf, freezeOf, throttleOf}
 use Rattle.model.specs.FreezeList.{freezeListOf}
 use Rattle.model.specs.LogFreeze.{logFreezeOf}
+use Rattle.model.specs.View.{viewSnapshotOf, viewTopicOf, viewPartitionOf, viewFreezeOf}
 use Rattle.model.specs.Downgrade.{downgradeOf}
 use Rattle.model.specs.declared.Kind.{Kind}
 use Rattle.laws_answers.specs.Values.{Below, none-below, read-below, write-below, open-below, validate-below, apply-below, topic-below, topic-id-below}
 use Rattle.laws_answers.specs.Values.{partition-below, broker-below, short-below, freeze-below, throttle-once, snapshot-below, downgrade-below}
 use Rattle.laws_answers.specs.Jobs.{freezes-below}
+use Rattle.laws_answers.specs.Views.{view-snapshot-below, view-topic-below, view-partition-below, view-freeze-below}
 use Rattle.packing.specs.Undone.{PackedBack, CountedBack, AloneBack, packed-undone, counted-undone, alone-undone}
 use Rattle.jeghatuf.specs.Write.{writeOfNumber}
 
@@ -42,6 +44,10 @@ pub record Unpacked : Type 0 where
   pub jeghatuf-freezes : (image list out : Bytes) → PackedBack (freezeListOf image list out .reply)
   pub jeghatuf-snapshot : (image out : Bytes) → AreBytes image → PackedBack (snapshotOf image out .reply)
   pub jeghatuf-downgrade : (image : Bytes) (level : ℕ) (out : Bytes) → AreBytes image → PackedBack (downgradeOf image level out .reply)
+  pub jeghatuf-view-snapshot : (image list out : Bytes) → AreBytes image → PackedBack (viewSnapshotOf image list out .reply)
+  pub jeghatuf-view-topic : (image list name out : Bytes) → AreBytes image → PackedBack (viewTopicOf image list name out .reply)
+  pub jeghatuf-view-partition : (image list name : Bytes) (number : ℕ) (out : Bytes) → AreBytes image → PackedBack (viewPartitionOf image list name number out .reply)
+  pub jeghatuf-view-freeze : (image list name out : Bytes) → AreBytes image → PackedBack (viewFreezeOf image list name out .reply)
   -- how many values came: the value itself is in the lent list
   pub jeghatuf-throttle : (image : Bytes) (node kind : ℕ) → CountedBack (throttleOf image node kind)
   -- a number alone: the values are in the lent list
@@ -78,6 +84,11 @@ unpacked = record {
   jeghatuf-freezes = λ image list out. packed-undone (freezeListOf image list out .reply) (freezes-below image list out);
   jeghatuf-snapshot = λ image out b. packed-undone (snapshotOf image out .reply) (snapshot-below image b out);
   jeghatuf-downgrade = λ image level out b. packed-undone (downgradeOf image level out .reply) (downgrade-below image b level out);
+  jeghatuf-view-snapshot = λ image list out b. packed-undone (viewSnapshotOf image list out .reply) (view-snapshot-below image b list out);
+  jeghatuf-view-topic = λ image list name out b. packed-undone (viewTopicOf image list name out .reply) (view-topic-below image b list name out);
+  jeghatuf-view-partition = λ image list name number out b.
+      packed-undone (viewPartitionOf image list name number out .reply) (view-partition-below image b list name number out);
+  jeghatuf-view-freeze = λ image list name out b. packed-undone (viewFreezeOf image list name out .reply) (view-freeze-below image b list name out);
   jeghatuf-throttle = λ image node kind. counted-undone (throttleOf image node kind) (omega (arith, throttle-once image node kind));
   jeghatuf-features-epoch = λ image. alone-undone (epochOf image);
   jeghatuf-log-offset = λ image. alone-undone (offsetOf image);

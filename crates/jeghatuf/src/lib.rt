@@ -5,6 +5,7 @@ mod images;
 mod lists;
 mod logs;
 mod restarts;
+mod viewers;
 
 use model::answers::Answer;
 use model::refusals::UNKNOWN_KIND;

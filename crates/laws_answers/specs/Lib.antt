@@ -2,9 +2,10 @@
 --
 --   how long the records of an image can be ............... Records.Short, Records.entries-short, Records.entries-few
 --   how long the listing for a downgrade can be ........... Listing.listing-short
---   each operation's value ................................ Values.Below, Values.read-below and its neighbours
+--   each operation's value ................................ Values.Below, Values.read-below and its neighbours; a viewer's: Views
 --   the bytes written for a list of jobs .................. Jobs.freezes-below
 pub mod Records
 pub mod Listing
 pub mod Values
 pub mod Jobs
+pub mod Views

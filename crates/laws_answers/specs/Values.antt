@@ -42,7 +42,7 @@ Below r = firstValue (r .values) < 4294967296
 pub none-below : (n : ℕ) → Below (refused n)
 none-below n = omega arith
 
-emit-below : (s out : Bytes) → length s < 4294967296 → Below (emitBytes s out .reply)
+pub emit-below : (s out : Bytes) → length s < 4294967296 → Below (emitBytes s out .reply)
 unfolding emitBytes
 emit-below s out h = go (leb (length s) (length out))
   where
@@ -144,7 +144,7 @@ module _ (image : Bytes) (b : AreBytes image) where
     by-number : Below (cond (isImage image) (emit rs out) (unchanged 1 out) .reply)
     by-number = written-below (emit rs out) out (λ f. records-below rs out (short f))
 
-  entry-short : (k : Key) → Fits capacity c → length (joined recordBytes (found (get key k (c .real)))) ≤ longestRecord
+  pub entry-short : (k : Key) → Fits capacity c → length (joined recordBytes (found (get key k (c .real)))) ≤ longestRecord
   entry-short k f = found-short (get key k (c .real)) (get-short (c .real) (entries-short capacity c f) k)
 
   pub topic-below : (name out : Bytes) → Below (topicByName image name out .reply)

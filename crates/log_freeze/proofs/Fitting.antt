@@ -18,13 +18,6 @@ and-false : (b : Bool) → b && false ≡ false
 and-false true = refl
 and-false false = refl
 
--- a name that is shorter than a scope does not begin with it
-pub too-short : (scope name : Bytes) → length name < length scope → false ≡ sameBytes scope (take (length scope) name)
-too-short scope name h = sym (apart-sameBytes scope (take (length scope) name) (λ e. absurd (omega (arith, ap length e, size))))
-  where
-    size : length (take (length scope) name) + length (drop (length scope) name) ≡ length name
-    size = sym (length-append (take (length scope) name) (drop (length scope) name)) ∙ ap length (take-append-drop (length scope) name)
-
 module _ (f : Run) (name : Bytes) (short : length name ≤ 255) where
   abbrev scope : Bytes
   scope = value 1 f

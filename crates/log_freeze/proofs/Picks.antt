@@ -10,7 +10,8 @@ use lib.Seq.{set-out}
 use Rattle.model.specs.Number.{Bytes, number}
 use Rattle.model.specs.Order.{sameBytes}
 use Rattle.model.specs.Run.{Run, value}
-use Rattle.model.specs.Lookup.{literal, prefixed}
+use Rattle.model.specs.Lookup.{beginsWith, literal, prefixed}
+use Rattle.wire.proofs.Begins.{begins-same}
 use Rattle.keys.specs.Keys.{kindIn, runIn}
 use Rattle.keys.proofs.Found.{part-length}
 use Rattle.keys.proofs.Fields.{PartOf, lent-value}
@@ -46,9 +47,9 @@ module _ (e name : Bytes) {start end : ℕ} (p : PartOf e 1 start end) where
   size : end - start ≡ length (value 1 (runIn e))
   size = omega (arith, part-length e start end (value 1 (runIn e)) (p .1) (p .2) (p .0))
 
-  module _ {b : Bool} (eb : b ≡ sameBytes lent (take (length lent) name)) where
+  module _ {b : Bool} (eb : b ≡ beginsWith lent name) where
     begins : b ≡ sameBytes (value 1 (runIn e)) (take (length (value 1 (runIn e))) name)
-    begins = eb ∙ ap (λ x. sameBytes x (take (length x) name)) (lent-value e 1 start end p)
+    begins = eb ∙ ap (λ x. beginsWith x name) (lent-value e 1 start end p) ∙ sym (begins-same (value 1 (runIn e)) name)
 
     pub no-slot : not b ≡ true → 257 ≡ slotOf (runIn e) name
     no-slot h = rw (sym begins ∙ not-true b h)

@@ -13,11 +13,11 @@ use records::Source;
 use records::read_from;
 use records::text_fault;
 use shapes::all_rows;
+use wire::begins_with;
 use wire::get16;
 ghost use mathlib.Core.Path.{_≡_};
 ghost use Prim.Native.Nat.{_+_, _≤_, _<_};
-ghost use lib.ListN.{length, take, replicate};
-ghost use Rattle.model.specs.Order.{sameBytes};
+ghost use lib.ListN.{length, replicate};
 ghost use Rattle.model.specs.Run.{value};
 ghost use Rattle.model.specs.Reply.{emitBytes};
 ghost use Rattle.model.specs.Snapshot.{emit};
@@ -36,17 +36,6 @@ const NAME_LIMIT: usize = 255;
 const LITERAL: usize = 256;
 
 const NO_SLOT: usize = 257;
-
-// Whether a name begins with a scope.
-fn begins_with(name: &[u8], scope: &[u8]) -> bool
-    ensures { λ r. ⌜ r ≡ sameBytes (now (scope .entry)) (take (length (now (scope .entry))) (now (name .entry))) ⌝ }
-{
-    let n = scope.len();
-    if name.len() < n {
-        return false;
-    }
-    wire::same(scope, &name[..n])
-}
 
 // The slot of a scope that the name begins with, by its pattern.
 fn pattern_slot(pattern: &[u8], scope: usize, name: usize) -> usize

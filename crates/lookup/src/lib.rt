@@ -37,7 +37,7 @@ ghost use Rattle.lookup.specs.Values.{ratedAs};
 const NAME_LIMIT: usize = 255;
 
 // The entry of a kind that two fields name.
-fn entry(image: &[u8], kind: u8, first: &[u8], second: &[u8], out: &mut [u8]) -> Answer
+pub fn entry(image: &[u8], kind: u8, first: &[u8], second: &[u8], out: &mut [u8]) -> Answer
     requires { ⌜ (isImage (now image) ≡ true) × Query kind (now first) (now second) ⌝ }
     ensures { λ r. ⌜ replied r ≡ emit (found (get key (queryKey kind (now (first .entry)) (now (second .entry))) (contentsOf (now (image .entry)) .real))) (now (out .entry)) .reply ⌝ }
     ensures { λ r. ⌜ now (out .exit) ≡ emit (found (get key (queryKey kind (now (first .entry)) (now (second .entry))) (contentsOf (now (image .entry)) .real))) (now (out .entry)) .buffer ⌝ }

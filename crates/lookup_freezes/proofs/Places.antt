@@ -1,18 +1,18 @@
 -- Places of freezes, and what is written of one.
 use mathlib.Core.Path.{_≡_, refl, sym, ap, ap₂, _∙_, subst}
-use mathlib.Core.Bool.{Bool, true, false, cond, _&&_}
+use mathlib.Core.Bool.{Bool, true, false, cond}
 use mathlib.Core.List.{List, [], _∷_}
 use mathlib.Core.Option.{Option, none, some}
 use Prim.Native.Nat.{ℕ, _+_, _-_, _≤_, _<_}
 use native.Mathlib.Decide.{decLt}
 use native.Mathlib.Omega.{arith}
-use borrow.Author.Tests.{lt-ltb, le-ltb, eqb-true, eqb-false}
-use lib.Dec.{eqb, ltb}
-use lib.ListN.{length, take, drop, getD, length-drop}
+use borrow.Author.Tests.{lt-ltb, le-ltb}
+use lib.Dec.{ltb}
+use lib.ListN.{length, take, drop, length-drop}
 use lib.Seq.{slice, drop-drop}
 use Rattle.model.specs.Choice.{given, orElse}
 use Rattle.model.specs.Number.{Bytes, AreBytes}
-use Rattle.model.specs.Order.{Key, compareBytes, sameBytes}
+use Rattle.model.specs.Order.{Key}
 use Rattle.model.specs.Run.{field}
 use Rattle.model.specs.Kind.{kindOf, kinds}
 use Rattle.model.specs.Record.{Rec}
@@ -28,7 +28,6 @@ use Rattle.laws.specs.Choice.{impossible, over}
 use Rattle.laws.specs.Lists.{in-all}
 use Rattle.laws.specs.Map.{get-map, get-in}
 use Rattle.laws.specs.Numbers.{drop-are-bytes}
-use Rattle.laws.specs.Order.{sameBytes-true}
 use Rattle.laws_image.specs.Entries.{entry-key}
 use Rattle.fields.proofs.Parse.{take-drop}
 use Rattle.entries.specs.Entries.{recordsIn, Entries, Placed, recordIn}
@@ -153,42 +152,3 @@ module _ (s name : Bytes) {b : Bool} (eb : b ≡ beginsWith internal name) where
     pub chosen-emitted : (out : Bytes) {r : Reply} {v : Bytes} → (r ≡ emit (recordAt s at end) out .reply) × (v ≡ emit (recordAt s at end) out .buffer)
         → (r ≡ emit (asList (freeze name (entriesIn s))) out .reply) × (v ≡ emit (asList (freeze name (entriesIn s))) out .buffer)
     chosen-emitted out e = (e .0 ∙ ap (λ x. emit x out .reply) chosen-list, e .1 ∙ ap (λ x. emit x out .buffer) chosen-list)
-
--- 5. Internal names
-
-pub short-name : (name : Bytes) → length name < 2 → false ≡ beginsWith internal name
-unfolding beginsWith
-short-name [] h = refl
-short-name (a ∷ []) h = go (eqb 0x5f a)
-  where
-    go : (b : Bool) → false ≡ b && false
-    go true = refl
-    go false = refl
-short-name (a ∷ b ∷ name) h = absurd (omega arith)
-
-two-same : (a b : ℕ) → sameBytes (a ∷ b ∷ []) internal ≡ eqb 0x5f a && (eqb 0x5f b && true)
-unfolding sameBytes compareBytes
-two-same a b = go (sameBytes (a ∷ b ∷ []) internal) refl (eqb 0x5f a) refl (eqb 0x5f b) refl
-  where
-    equal : 0x5f ≡ a → 0x5f ≡ b → sameBytes (a ∷ b ∷ []) internal ≡ true
-    equal p q = rw (← p, ← q) refl
-
-    go : (x : Bool) → sameBytes (a ∷ b ∷ []) internal ≡ x → (y : Bool) → eqb 0x5f a ≡ y → (z : Bool) → eqb 0x5f b ≡ z → x ≡ y && (z && true)
-    go true e true f true g = refl
-    go false e true f true g = let t = sym e ∙ equal (eqb-true 0x5f a f) (eqb-true 0x5f b g) in impossible cc
-    go true e false f z g =
-        let t : _≡_ {A = Bytes} (a ∷ b ∷ []) internal = sameBytes-true (a ∷ b ∷ []) internal e in
-        let h : a ≡ 0x5f = ap (λ l. getD l 0 0) t in
-        absurd (eqb-false 0x5f a f (sym h))
-    go false e false f z g = refl
-    go true e true f false g =
-        let t : _≡_ {A = Bytes} (a ∷ b ∷ []) internal = sameBytes-true (a ∷ b ∷ []) internal e in
-        let h : b ≡ 0x5f = ap (λ l. getD l 1 0) t in
-        absurd (eqb-false 0x5f b g (sym h))
-    go false e true f false g = refl
-
-pub long-name : (name : Bytes) → 2 ≤ length name → {r : Bool} → r ≡ sameBytes (take 2 name) internal → r ≡ beginsWith internal name
-unfolding beginsWith
-long-name [] h e = absurd (omega arith)
-long-name (a ∷ []) h e = absurd (omega arith)
-long-name (a ∷ b ∷ name) h e = e ∙ two-same a b

@@ -21,10 +21,7 @@ ghost use Rattle.lookup_freezes.specs.Freezes.{frozenIn, Chosen};
 pub fn is_internal(name: &[u8]) -> bool
     ensures { λ r. ⌜ r ≡ beginsWith internal (now (name .entry)) ⌝ }
 {
-    if name.len() < 2 {
-        return false;
-    }
-    wire::same(&name[..2], b"__")
+    wire::begins_with(name, b"__")
 }
 
 // The place of the freeze of a name's longest stored prefix. The prefixes ascend as the entries do: each is sought after the last one's place.

@@ -24,6 +24,7 @@ use Rattle.model.specs.Apply.{applyOf}
 use Rattle.model.specs.Snapshot.{snapshotOf, restoreOf, restored}
 use Rattle.model.specs.Lookup.{topicByName, topicById, partitionOf, brokerOf, epochOf, offsetOf, shortOf, freezeOf, throttleOf}
 use Rattle.model.specs.FreezeList.{freezeListOf}
+use Rattle.model.specs.View.{Query, viewOf}
 use Rattle.model.specs.Downgrade.{downgradeOf}
 use Rattle.model.specs.Reply.{Reply, accepted, Ended}
 use Rattle.model.specs.declared.Kind.the-variants.{FeaturesEpoch}
@@ -45,6 +46,8 @@ pub data Step : Type 0 where
   askFreeze : Bytes → Bytes → Step
   -- a list of names and an output
   askFreezes : Bytes → Bytes → Step
+  -- a viewer's query, its prefixes and an output
+  view : Query → Bytes → Bytes → Step
   askThrottle : ℕ → ℕ → Step
   -- the listing for a level, and a snapshot, each with an output
   askDowngrade : ℕ → Bytes → Step
@@ -95,6 +98,7 @@ answer askOffset image = said (offsetOf image) ∷ []
 answer askShort image = said (shortOf image) ∷ []
 answer (askFreeze name out) image = wrote (freezeOf image name out) ∷ []
 answer (askFreezes list out) image = wrote (freezeListOf image list out) ∷ []
+answer (view q list out) image = wrote (viewOf q image list out) ∷ []
 answer (askThrottle node which) image = said (throttleOf image node which) ∷ []
 answer (askDowngrade level out) image = wrote (downgradeOf image level out) ∷ []
 answer (snap out) image = wrote (snapshotOf image out) ∷ []
@@ -112,6 +116,7 @@ after askOffset image = image
 after askShort image = image
 after (askFreeze name out) image = image
 after (askFreezes list out) image = image
+after (view q list out) image = image
 after (askThrottle node which) image = image
 after (askDowngrade level out) image = image
 after (snap out) image = image
@@ -129,6 +134,7 @@ onGiven a f askOffset = a
 onGiven a f askShort = a
 onGiven a f (askFreeze name out) = a
 onGiven a f (askFreezes list out) = a
+onGiven a f (view q list out) = a
 onGiven a f (askThrottle node which) = a
 onGiven a f (askDowngrade level out) = a
 onGiven a f (snap out) = a
@@ -156,6 +162,7 @@ isCut askOffset = false
 isCut askShort = false
 isCut (askFreeze name out) = false
 isCut (askFreezes list out) = false
+isCut (view q list out) = false
 isCut (askThrottle node which) = false
 isCut (askDowngrade level out) = false
 isCut (snap out) = false
@@ -241,6 +248,7 @@ StepGiven capacity askOffset = Unit {0}
 StepGiven capacity askShort = Unit {0}
 StepGiven capacity (askFreeze name out) = Unit {0}
 StepGiven capacity (askFreezes list out) = Unit {0}
+StepGiven capacity (view q list out) = Unit {0}
 StepGiven capacity (askThrottle node which) = Unit {0}
 StepGiven capacity (askDowngrade level out) = Unit {0}
 StepGiven capacity (snap out) = Unit {0}

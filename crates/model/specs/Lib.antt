@@ -44,6 +44,7 @@
 --   14, the freeze, from the log alone .................... LogFreeze.lastFreeze, logFreezeOf, FreezeFromLog
 --   4, the freezes of a whole job list .................... Names.namesOf, FreezeList.freezeIndex, freezesRead, freezeListOf; IndexNamesFreeze,
 --                                                           IndexesApart, ReadAtMostOnce, UnreadUnseen
+--   10, a dealer sees its own plans ....................... View.viewOf, NothingElseSeen, FreezeOfVisible
 pub mod Choice
 pub mod Number
 pub mod Text
@@ -68,6 +69,7 @@ pub mod Quotas
 pub mod Names
 pub mod Lookup
 pub mod FreezeList
+pub mod View
 pub mod Downgrade
 pub mod History
 pub mod Convert

@@ -63,3 +63,6 @@ pub const OFFSET_TOO_LOW: u8 = 23;
 
 // Validate: a topic's name that is unlawful, after Read's and before 6.
 pub const UNLAWFUL_NAME: u8 = 24;
+
+// A viewer's query: the name begins with none of the viewer's prefixes, whether or not it exists.
+pub const NOT_VISIBLE: u8 = 25;

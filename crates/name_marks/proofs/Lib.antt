@@ -1,4 +1,3 @@
-pub mod Scopes
 pub mod Onward
 pub mod Fitting
 pub mod Written

@@ -2,6 +2,7 @@
 use model::Order;
 use names::Name;
 use names::name_at;
+use wire::begins_with;
 use wire::compare;
 use wire::put;
 use wire::same;
@@ -10,24 +11,12 @@ ghost use mathlib.Core.List.{_++_};
 ghost use Prim.Native.Nat.{_*_, _≤_};
 ghost use lib.ListN.{length, drop, replicate};
 ghost use Rattle.model.specs.Order.{compareBytes, isBelow};
-ghost use Rattle.model.specs.Lookup.{beginsWith};
 ghost use Rattle.name_marks.specs.Marks.{fitsName, marked, Accepted, jobs, Behind, Reached};
 
 // A place in a list of names, and how many names stand before it.
 pub struct Window {
     pub at: usize,
     pub n: usize,
-}
-
-// Whether a name begins with a scope.
-fn begins_with(name: &[u8], scope: &[u8]) -> bool
-    ensures { λ r. ⌜ r ≡ beginsWith (now (scope .entry)) (now (name .entry)) ⌝ }
-{
-    let n = scope.len();
-    if name.len() < n {
-        return false;
-    }
-    same(scope, &name[..n])
 }
 
 // Whether a scope fits a name: a literal one is the name, a prefix begins it.

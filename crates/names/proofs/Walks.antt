@@ -21,18 +21,18 @@ use Rattle.names.specs.Lists.{outOfOrder, sizeAt, lastOr}
 
 -- 1. The first name
 
-skipped : (ordered : Bool) (most : ℕ) (prior : Option Bytes) (n : ℕ) (s : Bytes)
+pub skipped : (ordered : Bool) (most : ℕ) (prior : Option Bytes) (n : ℕ) (s : Bytes)
     → namesFrom ordered most prior n s ≡ namesFrom ordered most prior 0 (drop n s)
 unfolding namesFrom
 skipped ordered most prior zero s = refl
 skipped ordered most prior (suc n) [] = refl
 skipped ordered most prior (suc n) (x ∷ s) = skipped ordered most prior n s
 
-pair : (h l : ℕ) → number (h ∷ l ∷ []) ≡ h * 256 + l
+pub pair : (h l : ℕ) → number (h ∷ l ∷ []) ≡ h * 256 + l
 pair h l = omega arith
 
 module _ (ordered : Bool) (prior : Option Bytes) where
-  first-name : (most size : ℕ) (t : Bytes) → size ≡ number (take 2 t) → 2 + size ≤ length t → nameFault ordered prior (take size (drop 2 t)) ≡ 0
+  pub first-name : (most size : ℕ) (t : Bytes) → size ≡ number (take 2 t) → 2 + size ≤ length t → nameFault ordered prior (take size (drop 2 t)) ≡ 0
       → namesFrom ordered (suc most) prior 0 t ≡ name (take size (drop 2 t)) (namesFrom ordered most (some (take size (drop 2 t))) 0 (drop (suc (suc size)) t))
   unfolding namesFrom
   first-name most size [] e h f = absurd (omega arith)

@@ -3,3 +3,4 @@ pub mod Rest
 pub mod Laid
 pub mod Leads
 pub mod Ranges
+pub mod Begins

@@ -13,6 +13,7 @@ ghost use lib.Dec.{eqb};
 ghost use Rattle.model.specs.Choice.{every};
 ghost use Rattle.model.specs.Number.{number, bytes, span, place as placeAmong, isOffset};
 ghost use Rattle.model.specs.Order.{compareBytes, sameBytes, ordering};
+ghost use Rattle.model.specs.Lookup.{beginsWith};
 
 // The first number of eight bytes that is negative when signed, which is the place of 0 among the signed ones; and -1.
 pub const HALF: u64 = 0x8000_0000_0000_0000;
@@ -133,6 +134,17 @@ pub fn same(a: &[u8], b: &[u8]) -> bool
         Order::Equal => true,
         Order::Greater => false,
     }
+}
+
+// Whether a byte string begins with another.
+pub fn begins_with(s: &[u8], prefix: &[u8]) -> bool
+    ensures { λ r. ⌜ r ≡ beginsWith (now (prefix .entry)) (now (s .entry)) ⌝ }
+{
+    let n = prefix.len();
+    if s.len() < n {
+        return false;
+    }
+    same(prefix, &s[..n])
 }
 
 // Copies all of `src` into `dst` from `at` on.

@@ -14,6 +14,7 @@ mod restarts;
 mod rows;
 mod tables;
 mod times;
+mod views;
 mod worst;
 
 pub use page::Page;
@@ -24,6 +25,7 @@ use freezes::{Freezes, Subjects};
 use logs::Log;
 use records::Record;
 use rows::Row;
+use views::View;
 use worst::Worst;
 
 /// The capacities of the images, in bytes.
@@ -43,6 +45,7 @@ pub struct Figures {
     worst: Vec<Worst>,
     logs: Vec<Log>,
     freezes: Vec<Freezes>,
+    views: Vec<View>,
 }
 
 impl Figures {
@@ -60,6 +63,7 @@ impl Figures {
                 worst: worst::measure(&images[SIZES.len() - 1]),
                 logs: logs::measure(&images[SIZES.len() - 1]),
                 freezes: frozen.measure(),
+                views: views::measure(&images[SIZES.len() - 1]),
             }
         });
         passes.reduce(Self::best).expect("a pass")
@@ -74,6 +78,7 @@ impl Figures {
         let worst = self.worst.into_iter().zip(other.worst);
         let logs = self.logs.into_iter().zip(other.logs);
         let freezes = self.freezes.into_iter().zip(other.freezes);
+        let views = self.views.into_iter().zip(other.views);
         Self {
             counts: self.counts,
             rows: rows.map(|(one, other)| one.best(&other)).collect(),
@@ -82,6 +87,7 @@ impl Figures {
             worst: worst.map(|(one, other)| one.best(&other)).collect(),
             logs: logs.map(|(one, other)| one.best(&other)).collect(),
             freezes: freezes.map(|(one, other)| one.best(&other)).collect(),
+            views: views.map(|(one, other)| one.best(&other)).collect(),
         }
     }
 

@@ -11,6 +11,8 @@ mod images;
 mod logs;
 #[cfg(feature = "images")]
 mod restarts;
+#[cfg(feature = "images")]
+mod views;
 
 #[cfg(feature = "images")]
 pub use conversions::*;
@@ -22,6 +24,8 @@ pub use images::*;
 pub use logs::*;
 #[cfg(feature = "images")]
 pub use restarts::*;
+#[cfg(feature = "images")]
+pub use views::*;
 
 use wire::Lists;
 

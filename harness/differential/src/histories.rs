@@ -17,6 +17,7 @@ mod reference;
 mod restart;
 mod runs;
 mod short;
+mod views;
 
 pub use conversions::{compare_conversions, compare_named_conversions, new_form, old_form};
 pub use cuts::compare_cuts;
@@ -28,6 +29,7 @@ pub use offsets::compare_offsets;
 pub use passes::{compare_named_passes, compare_passes};
 pub use quotas::{compare_named_quotas, compare_quotas};
 pub use short::compare_short;
+pub use views::{compare_views, listed};
 
 use course::Course;
 use wire::Random;

@@ -1,7 +1,9 @@
 -- `downgrade::emit_listed` meets its contract.
 use borrow.Author.Needs.{needs}
-use Rattle.find.proofs.Lent.{lent-entries}
-use Rattle.downgrade.proofs.Emits.{lent-short, too-short, fits, emitted}
+use native.Mathlib.Omega.{arith}
+use Rattle.find.proofs.Lent.{lent-entries, lent-short}
+use Rattle.find.proofs.Passes.{too-short, emitted}
+use Rattle.downgrade.proofs.Emits.{all-bytes}
 use Rattle.downgrade.proofs.emit_listed.Statement.{statement}
 use Rattle.downgrade.proofs.emit_listed.Tie as tie
 
@@ -26,7 +28,7 @@ returns : tie.Need-returns
 returns c =
     let at-reals-end = c .before .before .before in
     let start = at-reals-end .before .before .before in
-    too-short (start .args .image .now) (at-reals-end .reals-end .ensures) (start .args .level) (start .args .out .now) (c .before .listed-length .ensures) (c .if1 .taken)
+    too-short _ _ (all-bytes (start .args .image .now) (at-reals-end .reals-end .ensures) (start .args .level)) (start .args .out .now) (c .before .listed-length .ensures) (c .if1 .taken)
 
 sub-put-entries : tie.Need-sub-put-entries
 sub-put-entries c = search needs
@@ -43,7 +45,7 @@ put-entries-requires c κs =
     let at-reals-end = at-listed-length .before .before in
     let start = at-reals-end .before .before .before in (
       lent-entries (start .args .image .now) (at-reals-end .reals-end .ensures),
-      fits (start .args .image .now) (at-reals-end .reals-end .ensures) (start .args .level) (start .args .out .now) (at-listed-length .listed-length .ensures) (c .before .before .if1 .left),
+      omega (arith, at-listed-length .listed-length .ensures, c .before .before .if1 .left),
     )
 
 same-length : tie.Need-same-length
@@ -55,7 +57,7 @@ returns-2 c =
     let at-listed-length = at-if1 .before in
     let at-reals-end = at-listed-length .before .before in
     let start = at-reals-end .before .before .before in
-    emitted (start .args .image .now) (at-reals-end .reals-end .ensures) (start .args .level) (start .args .out .now) (at-listed-length .listed-length .ensures) (at-if1 .if1 .left)
+    emitted _ _ (all-bytes (start .args .image .now) (at-reals-end .reals-end .ensures) (start .args .level)) (start .args .out .now) (at-listed-length .listed-length .ensures) (at-if1 .if1 .left)
     (c .before .before .put-entries .ensures)
 
 pub emit-listed-spec : {M : Type 1} → statement M

@@ -8,12 +8,13 @@ use Rattle.model.specs.Number.{AreBytes}
 use Rattle.keys.proofs.Keys.{known-bytes}
 use Rattle.entries.proofs.Turns.{Stands, stands, ended, not-torn, turn-falls}
 use Rattle.image_entries.proofs.Turns.{forward, inside, is-record}
-use Rattle.downgrade.proofs.Passes.{Counted, count-start, count-fits, count-turn, counted}
+use Rattle.find.proofs.Passes.{Counted, count-start, count-fits, count-turn, counted}
+use Rattle.downgrade.specs.Listed.{listedBytes}
 use Rattle.downgrade.proofs.listed_length.Statement.{statement}
 use Rattle.downgrade.proofs.listed_length.Tie as tie
 
 abbrev Inv-loop : tie.InvT-loop
-Inv-loop s level c₀ n₀ c n = Counted level s (c .at) n
+Inv-loop s level c₀ n₀ c n = Counted (listedBytes level) s (c .at) n
 
 abbrev μ-loop : tie.MeasureT-loop
 μ-loop s level c₀ n₀ c n = length s - c .at

@@ -8,12 +8,13 @@ use Rattle.keys.proofs.Keys.{known-bytes}
 use Rattle.entries.proofs.Turns.{Stands, stands, ended, not-torn, turn-falls}
 use Rattle.image_entries.proofs.Turns.{forward, inside, is-record}
 use Rattle.records.proofs.Growing.{grown-length}
-use Rattle.downgrade.proofs.Passes.{Wrote, write-start, entry-fits, write-turn, wrote}
+use Rattle.find.proofs.Passes.{Wrote, write-start, entry-fits, write-turn, wrote}
+use Rattle.downgrade.specs.Listed.{listedBytes}
 use Rattle.downgrade.proofs.put_entries.Statement.{statement}
 use Rattle.downgrade.proofs.put_entries.Tie as tie
 
 abbrev Inv-loop : tie.InvT-loop
-Inv-loop out₀ s level c₀ n₀ out c n = Wrote level s out₀ out (c .at) n
+Inv-loop out₀ s level c₀ n₀ out c n = Wrote (listedBytes level) s out₀ out (c .at) n
 
 abbrev μ-loop : tie.MeasureT-loop
 μ-loop out₀ s level c₀ n₀ out c n = length s - c .at

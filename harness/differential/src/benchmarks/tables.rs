@@ -6,6 +6,7 @@ use super::logs::Log;
 use super::numbers::{ratio, size, time};
 use super::records::Record;
 use super::rows::Row;
+use super::views::View;
 use super::worst::Worst;
 use super::{Figures, PASSES, SIZES};
 use crate::timing::ROUNDS;
@@ -29,6 +30,8 @@ pub fn tables(figures: &Figures) -> String {
         "The freezes of a list of 256 names on full images of 64 KB, by how many freezes these have:\n"
             .to_owned(),
         freezes(&figures.freezes),
+        "A viewer's operations on the full image of 64 KB, beside the plain ones:\n".to_owned(),
+        views(&figures.views),
     ]
     .join("\n")
 }
@@ -141,6 +144,19 @@ fn freezes(freezes: &[Freezes]) -> String {
             time(*single),
             ratio(times.proved / single),
             time(list.singles),
+            time(times.rust),
+            ratio(times.ratio()),
+        ]
+    });
+    table(head, 1, rows)
+}
+
+fn views(views: &[View]) -> String {
+    let head = "viewer | time | plain | ratio";
+    let rows = views.iter().map(|View { name, times }| {
+        vec![
+            (*name).to_owned(),
+            time(times.proved),
             time(times.rust),
             ratio(times.ratio()),
         ]

@@ -13,10 +13,10 @@ rank-of-requires : tie.Need-rank-of-requires
 rank-of-requires c κs = search needs
 
 returns : tie.Need-returns
-returns c = apart-low _ _ (c .before .before .before .before .before .pre) _ (c .before .rank-of .ensures) (c .if1 .taken)
+returns c = apart-low _ (c .before .before .before .before .before .pre) _ (c .before .rank-of .ensures) _ (c .if1 .taken)
 
 returns-2 : tie.Need-returns-2
-returns-2 c = apart-high _ _ (c .before .before .before .before .before .before .pre) _ (c .before .before .rank-of .ensures) (c .if2 .taken)
+returns-2 c = apart-high _ (c .before .before .before .before .before .before .pre) _ (c .before .before .rank-of .ensures) _ (c .if2 .taken)
 
 value-at-requires : tie.Need-value-at-requires
 value-at-requires c κs = search needs
@@ -40,7 +40,7 @@ returns-3 c =
     let at-rank-of = at-if1 .before in
     let start = at-rank-of .before .before .before .before in
     let p = c .before .before .value-at in
-    apart-named _ _ (start .pre) _ (at-rank-of .rank-of .ensures) (at-if1 .if1 .left)
+    apart-named _ (start .pre) _ (at-rank-of .rank-of .ensures) _ (at-if1 .if1 .left)
     (at-if2 .if2 .left) _ _ (lent-slice _ _ _ (p .ensures .1) ∙ p .ensures .0) (c .same .ensures)
 
 pub is-apart-spec : {M : Type 1} → statement M

@@ -1,4 +1,4 @@
--- Scopes and the names that they fit.
+-- A byte string begins with another where its first bytes are the other.
 use mathlib.Core.Path.{_≡_, refl, sym, _∙_}
 use mathlib.Core.Bool.{Bool, true, false, _&&_}
 use mathlib.Core.List.{[], _∷_}
@@ -12,25 +12,24 @@ use Rattle.model.specs.Order.{compareBytes, sameBytes, isSame, thenBy}
 use Rattle.model.specs.Lookup.{beginsWith}
 use Rattle.laws.specs.Order.{numbers-total, eq-compare, lt≢eq, eq≢gt}
 
--- a name begins with a scope where its first bytes are the scope
-pub beginning : (scope name : Bytes) → sameBytes scope (take (length scope) name) ≡ beginsWith scope name
+pub begins-same : (prefix s : Bytes) → sameBytes prefix (take (length prefix) s) ≡ beginsWith prefix s
 unfolding sameBytes compareBytes beginsWith
-beginning [] name = refl
-beginning (a ∷ scope) [] = refl
-beginning (a ∷ scope) (b ∷ name) = go (compare a b) refl (beginning scope name)
+begins-same [] s = refl
+begins-same (a ∷ prefix) [] = refl
+begins-same (a ∷ prefix) (b ∷ s) = go (compare a b) refl (begins-same prefix s)
   where
-    go : (o : Ordering) → compare a b ≡ o → sameBytes scope (take (length scope) name) ≡ beginsWith scope name
-        → isSame (thenBy o (compareBytes scope (take (length scope) name))) ≡ eqb a b && beginsWith scope name
+    go : (o : Ordering) → compare a b ≡ o → sameBytes prefix (take (length prefix) s) ≡ beginsWith prefix s
+        → isSame (thenBy o (compareBytes prefix (take (length prefix) s))) ≡ eqb a b && beginsWith prefix s
     go Ordering·lt q h = rw (ne-eqb a b (λ e. lt≢eq (sym q ∙ eq-compare a b e))) refl
     go Ordering·eq q h = rw (eq-eqb a b (numbers-total .eqv a b q)) h
     go Ordering·gt q h = rw (ne-eqb a b (λ e. eq≢gt (sym (eq-compare a b e) ∙ q))) refl
 
--- a name that is shorter than a scope does not begin with it
-pub too-short : (scope name : Bytes) → length name < length scope → false ≡ beginsWith scope name
+-- one that is shorter does not begin with it
+pub begins-short : (prefix s : Bytes) → length s < length prefix → false ≡ beginsWith prefix s
 unfolding beginsWith
-too-short [] name h = absurd (omega arith)
-too-short (a ∷ scope) [] h = refl
-too-short (a ∷ scope) (b ∷ name) h = rw (← too-short scope name (omega arith)) (sym (no (eqb a b)))
+begins-short [] s h = absurd (omega arith)
+begins-short (a ∷ prefix) [] h = refl
+begins-short (a ∷ prefix) (b ∷ s) h = rw (← begins-short prefix s (omega arith)) (sym (no (eqb a b)))
   where
     no : (t : Bool) → t && false ≡ false
     no true = refl
