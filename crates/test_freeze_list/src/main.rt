@@ -2,6 +2,7 @@
 // buffer is then made no image, and ROOM is how many bytes the output has. A line is answered by its number; where that is 0, then by how many
 // bytes were written, by the freezes read, and by these bytes.
 use model::answers::Counted;
+use test_hex_lines::print_bytes;
 use wire::get16;
 use wire::wide;
 
@@ -9,14 +10,6 @@ use wire::wide;
 fn print_number(n: u64) {
     io::print_decimal(1, n);
     io::write_all(1, b" ");
-}
-
-fn print_bytes(bytes: &[u8]) {
-    let mut i = 0;
-    while i < bytes.len() {
-        io::print_hex(1, wide(bytes[i]), 2);
-        i += 1;
-    }
 }
 
 fn print_answer(answer: Counted, out: &[u8]) {

@@ -1,4 +1,5 @@
-// Standard input, line by line in hexadecimal. Lines that have a '#' are passed over, and so is what is no digit of 0 to 9 and a to f.
+// Standard input, line by line in hexadecimal, and bytes on standard output. Lines that have a '#' are passed over, and so is what is no digit of 0 to 9
+// and a to f.
 ghost use mathlib.Core.Path.{_≡_};
 ghost use mathlib.Core.Bool.{false};
 ghost use Prim.Native.Nat.{_+_, _*_, _%_, _≤_};
@@ -188,4 +189,18 @@ pub fn next_line(bytes: &mut [u8], chunk: &mut [u8], input: Input) -> Input
         turns -= 1;
     }
     start()
+}
+
+// A byte as a wide number.
+fn wide(x: u8) -> u64 {
+    x as u64
+}
+
+// Bytes on standard output, two digits to each.
+pub fn print_bytes(bytes: &[u8]) {
+    let mut i = 0;
+    while i < bytes.len() {
+        io::print_hex(1, wide(bytes[i]), 2);
+        i += 1;
+    }
 }

@@ -1,6 +1,7 @@
 // What a line's operation answers, as text: numbers, and bytes in hexadecimal.
 use model::answers::Answer;
 use model::answers::Value;
+use test_hex_lines::print_bytes;
 use wire::size;
 use wire::wide;
 
@@ -17,14 +18,6 @@ pub fn print_line(text: &[u8]) {
 pub fn print_number(n: u64) {
     io::print_decimal(1, n);
     io::write_all(1, b" ");
-}
-
-fn print_bytes(bytes: &[u8]) {
-    let mut i = 0;
-    while i < bytes.len() {
-        io::print_hex(1, wide(bytes[i]), 2);
-        i += 1;
-    }
 }
 
 // The bytes as the digits of one number to the base 257, modulo a prime.

@@ -1,6 +1,7 @@
 // The freeze of a name from runs of records, one to a line in hexadecimal: ROOM(2) LENGTH(2) NAME RUN, where ROOM is how many bytes the output has. A
 // line is answered by its number; where that is 0, then by how many bytes were written and these; where a record is refused, by its place.
 use model::answers::RunAnswer;
+use test_hex_lines::print_bytes;
 use wire::get16;
 use wire::wide;
 
@@ -8,14 +9,6 @@ use wire::wide;
 fn print_number(n: u64) {
     io::print_decimal(1, n);
     io::write_all(1, b" ");
-}
-
-fn print_bytes(bytes: &[u8]) {
-    let mut i = 0;
-    while i < bytes.len() {
-        io::print_hex(1, wide(bytes[i]), 2);
-        i += 1;
-    }
 }
 
 fn print_answer(answer: RunAnswer, out: &[u8]) {

@@ -1,9 +1,9 @@
--- `test_freeze_list::print_bytes` stays in its bytes.
+-- `test_hex_lines::print_bytes` stays in its bytes.
 use Prim.Native.Nat.{_-_, _≤_}
 use native.Mathlib.Omega.{arith}
 use lib.ListN.{length}
-use Rattle.test_freeze_list.proofs.print_bytes.Statement.{statement}
-use Rattle.test_freeze_list.proofs.print_bytes.Tie as tie
+use Rattle.test_hex_lines.proofs.print_bytes.Statement.{statement}
+use Rattle.test_hex_lines.proofs.print_bytes.Tie as tie
 
 abbrev Inv-loop : tie.InvT-loop
 Inv-loop bytes i₀ i = i ≤ length bytes
