@@ -11,10 +11,10 @@
  * count. A call that refuses leaves its lists as they were; only Restore and the
  * two calls on a snapshot's forms, where they refuse a record, write: see there.
  *
- * No memory is taken but the stack. A thread needs at most 384 KB of it for
- * jeghatuf_apply and jeghatuf_restore, 16 KB for jeghatuf_read, jeghatuf_write
- * and jeghatuf_open, and 96 KB for every other call. (Measured on x86-64 on full
- * images, in threads of falling size: 316, 16 and 72 KB served.)
+ * No memory is taken but the stack. A thread needs at most 576 KB of it for
+ * jeghatuf_compare, 384 KB for jeghatuf_apply and jeghatuf_restore, 16 KB for
+ * jeghatuf_read, jeghatuf_write and jeghatuf_open, and 96 KB for every other call.
+ * (Measured on x86-64, in threads of falling size: 450, 316, 16 and 72 KB served.)
  */
 #ifndef JEGHATUF_H
 #define JEGHATUF_H
@@ -152,6 +152,17 @@ uint64_t jeghatuf_view_partition(const uint8_t *image, size_t image_len, const u
 uint64_t jeghatuf_view_freeze(const uint8_t *image, size_t image_len, const uint8_t *prefixes,
                               size_t prefixes_len, const uint8_t *name, size_t name_len, uint8_t *out,
                               size_t out_len);
+
+/* Holds two recordings, runs of records, against each other, from fresh images in
+ * both buffers on, whatever they held; their capacities are equal. The records are
+ * applied at the offsets 0, 1, .. The value is 1 where the runs part: after value[0]
+ * applied records of each the snapshots differ apart from the offset, or one run
+ * goes on, has ended or is refused and the other is not so. It is 0 where they
+ * agree: after value[0] records both have ended, or are refused by one number. Both
+ * buffers are then the images after so many records. */
+uint64_t jeghatuf_compare(uint8_t *first, size_t first_len, uint8_t *second, size_t second_len,
+                          const uint8_t *one, size_t one_len, const uint8_t *other, size_t other_len,
+                          uint64_t *value, size_t value_len);
 
 /* Puts a node's throttle into value[0], in bytes a second; the kinds are 0 for
  * the leader's, 1 for the follower's, 2 between log directories. The value is 1,

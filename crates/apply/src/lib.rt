@@ -43,7 +43,7 @@ fn apply_record(image: &mut [u8], offset: u64, rec: &[u8]) -> u8
 }
 
 // The same where the offset is above the image's; else 21.
-fn apply_later(image: &mut [u8], offset: u64, rec: &[u8]) -> u8
+pub fn apply_later(image: &mut [u8], offset: u64, rec: &[u8]) -> u8
     requires { ⌜ (isImage (now image) ≡ true) × IsLogged (now rec) ⌝ }
     ensures { λ r. ⌜ numberReply r ≡ laid (now (image .entry)) (applyAt (length (now (image .entry))) offset (loggedIn (now (rec .entry))) (contentsOf (now (image .entry)))) .reply ⌝ }
     ensures { λ _. ⌜ now (image .exit) ≡ laid (now (image .entry)) (applyAt (length (now (image .entry))) offset (loggedIn (now (rec .entry))) (contentsOf (now (image .entry)))) .buffer ⌝ }

@@ -5,7 +5,7 @@ use mathlib.Core.List.{List, [], _∷_}
 use Prim.Native.Nat.{ℕ, _+_, _*_}
 use native.Mathlib.Omega.{arith}
 use Rattle.model.specs.Reply.{Reply}
-use Rattle.model.specs.Answers.{numberReply, valued, rating, restoreReply, runReply, separateReply, countReply}
+use Rattle.model.specs.Answers.{numberReply, valued, rating, restoreReply, runReply, separateReply, comparedReply, countReply}
 use Rattle.model.specs.declared.answers.Value.{Value}
 use Rattle.model.specs.declared.answers.Value.the-variants.{Is, Refused}
 use Rattle.model.specs.declared.answers.Rated.{Rated}
@@ -17,6 +17,8 @@ use Rattle.model.specs.declared.answers.RunAnswer.{RunAnswer}
 use Rattle.model.specs.declared.answers.RunAnswer.the-variants as run
 use Rattle.model.specs.declared.answers.Separated.{Separated}
 use Rattle.model.specs.declared.answers.Separated.the-variants as separation
+use Rattle.model.specs.declared.answers.Compared.{Compared}
+use Rattle.model.specs.declared.answers.Compared.the-variants as compared
 use Rattle.model.specs.declared.answers.Counted.{Counted}
 use Rattle.model.specs.declared.answers.Counted.the-variants as list
 use Rattle.packing.specs.Packed.{packed, firstIs, beside, filled, counted, widened}
@@ -126,3 +128,19 @@ module _ {v : Counted} {r : Reply} (e : countReply v ≡ r) where
   list-refused {n} {x} h q l =
       let k : x ≡ n * 4294967296 + 0 = omega (arith, q) in
       rw (← counted-as (list.Refused n) h) (k, refl)
+
+-- whether two recordings part, and the count beside it
+module _ {v : Compared} {r : Reply} (e : comparedReply v ≡ r) where
+  compared-as : (w : Compared) → v ≡ w → comparedReply w ≡ r
+  compared-as w h = ap comparedReply (sym h) ∙ e
+
+  pub compare-parted : {k : ℕ} {m : List ℕ} → v ≡ compared.Parted k → (l : List ℕ) → m ≡ firstIs (k ∷ []) l → (1 ≡ packed r) × (m ≡ beside r l)
+  compare-parted {k} h l p = rw (← compared-as (compared.Parted k) h) (refl, p)
+
+  pub compare-agree : {k : ℕ} {m : List ℕ} → v ≡ compared.Agree k → (l : List ℕ) → m ≡ firstIs (k ∷ []) l → (0 ≡ packed r) × (m ≡ beside r l)
+  compare-agree {k} h l p = rw (← compared-as (compared.Agree k) h) (refl, p)
+
+  pub compare-refused : {n x : ℕ} → v ≡ compared.Refused n → x ≡ n * 4294967296 → (l : List ℕ) → (x ≡ packed r) × (l ≡ beside r l)
+  compare-refused {n} {x} h q l =
+      let k : x ≡ n * 4294967296 + 0 = omega (arith, q) in
+      rw (← compared-as (compared.Refused n) h) (k, refl)

@@ -19,12 +19,14 @@ use Rattle.model.specs.Lookup.{topicByName, topicById, partitionOf, brokerOf, e
 use Rattle.model.specs.FreezeList.{freezeListOf}
 use Rattle.model.specs.LogFreeze.{logFreezeOf}
 use Rattle.model.specs.View.{viewSnapshotOf, viewTopicOf, viewPartitionOf, viewFreezeOf}
+use Rattle.model.specs.Recordings.{compareOf}
 use Rattle.model.specs.Downgrade.{downgradeOf}
 use Rattle.model.specs.declared.Kind.{Kind}
 use Rattle.laws_answers.specs.Values.{Below, none-below, read-below, write-below, open-below, validate-below, apply-below, topic-below, topic-id-below}
 use Rattle.laws_answers.specs.Values.{partition-below, broker-below, short-below, freeze-below, throttle-once, snapshot-below, downgrade-below}
 use Rattle.laws_answers.specs.Jobs.{freezes-below}
 use Rattle.laws_answers.specs.Views.{view-snapshot-below, view-topic-below, view-partition-below, view-freeze-below}
+use Rattle.laws_answers.specs.Comparisons.{compare-below}
 use Rattle.packing.specs.Undone.{PackedBack, CountedBack, AloneBack, packed-undone, counted-undone, alone-undone}
 use Rattle.jeghatuf.specs.Write.{writeOfNumber}
 
@@ -42,6 +44,7 @@ pub record Unpacked : Type 0 where
   pub jeghatuf-short-count : (image : Bytes) → AreBytes image → PackedBack (shortOf image)
   pub jeghatuf-freeze : (image name out : Bytes) → AreBytes image → PackedBack (freezeOf image name out .reply)
   pub jeghatuf-freezes : (image list out : Bytes) → PackedBack (freezeListOf image list out .reply)
+  pub jeghatuf-compare : (first second one other : Bytes) → PackedBack (compareOf first second one other .reply)
   pub jeghatuf-snapshot : (image out : Bytes) → AreBytes image → PackedBack (snapshotOf image out .reply)
   pub jeghatuf-downgrade : (image : Bytes) (level : ℕ) (out : Bytes) → AreBytes image → PackedBack (downgradeOf image level out .reply)
   pub jeghatuf-view-snapshot : (image list out : Bytes) → AreBytes image → PackedBack (viewSnapshotOf image list out .reply)
@@ -82,6 +85,7 @@ unpacked = record {
   jeghatuf-short-count = λ image b. packed-undone (shortOf image) (short-below image b);
   jeghatuf-freeze = λ image name out b. packed-undone (freezeOf image name out .reply) (freeze-below image b name out);
   jeghatuf-freezes = λ image list out. packed-undone (freezeListOf image list out .reply) (freezes-below image list out);
+  jeghatuf-compare = λ first second one other. packed-undone (compareOf first second one other .reply) (compare-below first second one other);
   jeghatuf-snapshot = λ image out b. packed-undone (snapshotOf image out .reply) (snapshot-below image b out);
   jeghatuf-downgrade = λ image level out b. packed-undone (downgradeOf image level out .reply) (downgrade-below image b level out);
   jeghatuf-view-snapshot = λ image list out b. packed-undone (viewSnapshotOf image list out .reply) (view-snapshot-below image b list out);

@@ -4,8 +4,10 @@
 --   how long the listing for a downgrade can be ........... Listing.listing-short
 --   each operation's value ................................ Values.Below, Values.read-below and its neighbours; a viewer's: Views
 --   the bytes written for a list of jobs .................. Jobs.freezes-below
+--   where two recordings part ............................. Comparisons.compare-below
 pub mod Records
 pub mod Listing
 pub mod Values
 pub mod Jobs
 pub mod Views
+pub mod Comparisons

@@ -15,6 +15,8 @@ use Rattle.model.specs.declared.answers.RunAnswer.{RunAnswer}
 use Rattle.model.specs.declared.answers.RunAnswer.the-variants.{Written, Refused as NotWritten, Stopped as NotRead}
 use Rattle.model.specs.declared.answers.Separated.{Separated}
 use Rattle.model.specs.declared.answers.Separated.the-variants.{Written as Both, Refused as Neither, Stopped as NotSeparated}
+use Rattle.model.specs.declared.answers.Compared.{Compared}
+use Rattle.model.specs.declared.answers.Compared.the-variants.{Parted, Agree, Refused as NotCompared}
 use Rattle.model.specs.declared.answers.Counted.{Counted}
 use Rattle.model.specs.declared.answers.Counted.the-variants.{Written as WithCount, Refused as NoCount}
 
@@ -54,6 +56,12 @@ abbrev pub separateReply : Separated → Reply
 separateReply (Both n offset) = accepted (n ∷ offset ∷ [])
 separateReply (Neither n) = refused n
 separateReply (NotSeparated n at) = record { number = n; values = at ∷ [] }
+
+-- two recordings: 1 where they part and 0 where they agree, then the count
+abbrev pub comparedReply : Compared → Reply
+comparedReply (Parted k) = accepted (1 ∷ k ∷ [])
+comparedReply (Agree k) = accepted (0 ∷ k ∷ [])
+comparedReply (NotCompared n) = refused n
 
 -- the freezes of a list: the bytes written, then the freezes read
 abbrev pub countReply : Counted → Reply

@@ -45,6 +45,7 @@
 --   4, the freezes of a whole job list .................... Names.namesOf, FreezeList.freezeIndex, freezesRead, freezeListOf; IndexNamesFreeze,
 --                                                           IndexesApart, ReadAtMostOnce, UnreadUnseen
 --   10, a dealer sees its own plans ....................... View.viewOf, NothingElseSeen, FreezeOfVisible
+--   11, two controllers' recordings ....................... Recordings.compareOf, Least, PartingIsLeast, OffsetApart, LeastIsOne
 pub mod Choice
 pub mod Number
 pub mod Text
@@ -74,3 +75,4 @@ pub mod Downgrade
 pub mod History
 pub mod Convert
 pub mod LogFreeze
+pub mod Recordings

@@ -40,6 +40,13 @@ pub enum Separated {
     Stopped(u8, usize),
 }
 
+// Two recordings part at a count, or agree up to it; or a refusal's number.
+pub enum Compared {
+    Parted(u64),
+    Agree(u64),
+    Refused(u8),
+}
+
 // Bytes written with a count beside them, or a refusal's number.
 pub enum Counted {
     Written(usize, u64),

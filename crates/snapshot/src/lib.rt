@@ -168,7 +168,7 @@ fn is_too_short(image: &[u8], end: usize, room: usize) -> bool
 }
 
 // Writes an image's records. The bytes written, or 19 and nothing is written.
-fn emit_records(image: &[u8], out: &mut [u8]) -> Answer
+pub fn emit_records(image: &[u8], out: &mut [u8]) -> Answer
     requires { ⌜ isImage (now image) ≡ true ⌝ }
     ensures { λ r. ⌜ replied r ≡ emit (snapshotRecords (contentsOf (now (image .entry)))) (now (out .entry)) .reply ⌝ }
     ensures { λ _. ⌜ now (out .exit) ≡ emit (snapshotRecords (contentsOf (now (image .entry)))) (now (out .entry)) .buffer ⌝ }

@@ -9,6 +9,7 @@ mod lookups;
 mod numbers;
 mod page;
 mod plot;
+mod recordings;
 mod records;
 mod restarts;
 mod rows;
@@ -23,6 +24,7 @@ use crate::images::Full;
 use conversions::Conversion;
 use freezes::{Freezes, Subjects};
 use logs::Log;
+use recordings::Recordings;
 use records::Record;
 use rows::Row;
 use views::View;
@@ -46,6 +48,7 @@ pub struct Figures {
     logs: Vec<Log>,
     freezes: Vec<Freezes>,
     views: Vec<View>,
+    recordings: Vec<Recordings>,
 }
 
 impl Figures {
@@ -64,6 +67,7 @@ impl Figures {
                 logs: logs::measure(&images[SIZES.len() - 1]),
                 freezes: frozen.measure(),
                 views: views::measure(&images[SIZES.len() - 1]),
+                recordings: recordings::measure(&images[SIZES.len() - 1]),
             }
         });
         passes.reduce(Self::best).expect("a pass")
@@ -79,6 +83,7 @@ impl Figures {
         let logs = self.logs.into_iter().zip(other.logs);
         let freezes = self.freezes.into_iter().zip(other.freezes);
         let views = self.views.into_iter().zip(other.views);
+        let recordings = self.recordings.into_iter().zip(other.recordings);
         Self {
             counts: self.counts,
             rows: rows.map(|(one, other)| one.best(&other)).collect(),
@@ -88,6 +93,7 @@ impl Figures {
             logs: logs.map(|(one, other)| one.best(&other)).collect(),
             freezes: freezes.map(|(one, other)| one.best(&other)).collect(),
             views: views.map(|(one, other)| one.best(&other)).collect(),
+            recordings: recordings.map(|(one, other)| one.best(&other)).collect(),
         }
     }
 

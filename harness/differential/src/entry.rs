@@ -2,6 +2,8 @@
 //! every call is safe.
 
 #[cfg(feature = "images")]
+mod comparisons;
+#[cfg(feature = "images")]
 mod conversions;
 #[cfg(feature = "images")]
 mod freezes;
@@ -14,6 +16,8 @@ mod restarts;
 #[cfg(feature = "images")]
 mod views;
 
+#[cfg(feature = "images")]
+pub use comparisons::*;
 #[cfg(feature = "images")]
 pub use conversions::*;
 #[cfg(feature = "images")]

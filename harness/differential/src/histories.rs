@@ -13,6 +13,7 @@ mod offsets;
 mod passes;
 mod premises;
 mod quotas;
+mod recordings;
 mod reference;
 mod restart;
 mod runs;
@@ -28,6 +29,8 @@ pub use no_image::compare_no_image;
 pub use offsets::compare_offsets;
 pub use passes::{compare_named_passes, compare_passes};
 pub use quotas::{compare_named_quotas, compare_quotas};
+pub(crate) use recordings::without_effect;
+pub use recordings::{compare_named_recordings, compare_recordings};
 pub use short::compare_short;
 pub use views::{compare_views, listed};
 

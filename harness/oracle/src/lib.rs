@@ -1,7 +1,8 @@
 //! The reference's answers in the scope paper's (01's) terms: what an image
 //! holds, in 01's order, and its bytes; whether bytes are an image; verdicts as
 //! 01's numbers; the listing for a downgrade; the freezes of a list of names;
-//! generated histories; the stored histories of crates/test_replay; facts.
+//! where two recordings part; generated histories; the stored histories of
+//! crates/test_replay; facts.
 
 pub mod cases;
 pub mod downgrade;
@@ -16,6 +17,7 @@ pub mod layout;
 pub mod names;
 pub mod observe;
 pub mod order;
+pub mod recordings;
 pub mod replay;
 pub mod snapshot;
 pub mod stored;

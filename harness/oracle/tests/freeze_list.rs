@@ -1,7 +1,7 @@
 //! The rules on a list of names: held to lists with known answers, and to the
 //! stored lines of the program `test_freeze_list`.
 
-use std::fs;
+mod vectors;
 
 use krabka_metadata::{MetadataImage, PatternType};
 use oracle::facts::build::{applied, freeze, thaw};
@@ -9,7 +9,8 @@ use oracle::freeze_list::{MOST_NAMES, NO_FREEZE, index, list, names, read, store
 use oracle::snapshot::{next, start};
 use oracle::verdict::NO_IMAGE;
 use uuid::Uuid;
-use wire::{OVER_A_LIMIT, PAST_THE_END, TOO_SHORT, WRONG_FIELD};
+use vectors::stored_lines;
+use wire::{OVER_A_LIMIT, PAST_THE_END, TOO_SHORT, WRONG_FIELD, hex};
 
 /// Literal "__x", "ab", "room-7", "zz" (0 to 3), prefixed "__", "ro", "room",
 /// "zz" (4 to 7).
@@ -98,29 +99,9 @@ fn the_first_faulty_name_decides() {
 
 #[test]
 fn the_stored_lists_are_the_references() {
-    let (stdin, stdout) = (file("stdin"), file("stdout"));
-    let lines = stdin.lines().filter(|line| !line.starts_with('#'));
-    let lines: Vec<&str> = lines.filter(|line| !line.is_empty()).collect();
-    assert_eq!(lines.len(), stdout.lines().count());
-    for (line, expected) in lines.into_iter().zip(stdout.lines()) {
-        assert_eq!(answer(&bytes(line)), expected, "{line}");
+    for (line, expected) in stored_lines("test_freeze_list") {
+        assert_eq!(answer(&line), expected, "{}", hex(&line));
     }
-}
-
-fn file(name: &str) -> String {
-    let folder = concat!(env!("CARGO_MANIFEST_DIR"), "/../../crates/test_freeze_list");
-    fs::read_to_string(format!("{folder}/{name}")).expect("a file of crates/test_freeze_list")
-}
-
-fn bytes(line: &str) -> Vec<u8> {
-    let digits: Vec<u32> = line
-        .chars()
-        .filter_map(|digit| digit.to_digit(16))
-        .collect();
-    let pairs = digits.chunks(2).map(|pair| pair[0] * 16 + pair[1]);
-    pairs
-        .map(|byte| u8::try_from(byte).expect("two digits"))
-        .collect()
 }
 
 /// What the program says to a line: whether there is an image, the output's

@@ -10,6 +10,7 @@ use oracle::{downgrade, order};
 use uuid::Uuid;
 use wire::{decode, encoded_all};
 
+use super::recordings::RESTORED;
 use super::rows::Timed;
 use crate::images::{Full, Subject};
 
@@ -21,7 +22,7 @@ pub fn measure(full: &Full) -> Vec<Timed> {
     vec![
         taken(full, &snapshot),
         restored(capacity, "Restore", &snapshot),
-        restored(capacity, "Restore, records reversed", &turned(&snapshot)),
+        restored(capacity, RESTORED, &turned(&snapshot)),
         listed(full),
     ]
 }

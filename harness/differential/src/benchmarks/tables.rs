@@ -4,8 +4,10 @@ use super::conversions::Conversion;
 use super::freezes::Freezes;
 use super::logs::Log;
 use super::numbers::{ratio, size, time};
+use super::recordings::{RESTORED, Recordings};
 use super::records::Record;
 use super::rows::Row;
+use super::times::Times;
 use super::views::View;
 use super::worst::Worst;
 use super::{Figures, PASSES, SIZES};
@@ -32,6 +34,9 @@ pub fn tables(figures: &Figures) -> String {
         freezes(&figures.freezes),
         "A viewer's operations on the full image of 64 KB, beside the plain ones:\n".to_owned(),
         views(&figures.views),
+        "Two recordings of the records that fill 64 KB, beside other calls that apply as many:\n"
+            .to_owned(),
+        recordings(&figures.recordings, &figures.rows),
     ]
     .join("\n")
 }
@@ -103,8 +108,7 @@ fn conversions(conversions: &[Conversion]) -> String {
 fn worst(cases: &[Worst], rows: &[Row]) -> String {
     let head = "call | time | plain image | worst/plain | Rust | proved/Rust";
     let rows = cases.iter().map(|case| {
-        let row = rows.iter().find(|row| row.name == case.plain);
-        let [.., plain] = row.expect("an operation that was measured").times;
+        let plain = at_most_size(rows, case.plain);
         let Worst { name, times, .. } = case;
         vec![
             (*name).to_owned(),
@@ -162,6 +166,32 @@ fn views(views: &[View]) -> String {
         ]
     });
     table(head, 1, rows)
+}
+
+fn recordings(recordings: &[Recordings], rows: &[Row]) -> String {
+    let head = format!(
+        "recordings | records of each | time | {RESTORED} | ratio | as many of Apply | ratio"
+    );
+    let restored = at_most_size(rows, RESTORED);
+    let rows = recordings.iter().map(|row| {
+        vec![
+            row.name.to_owned(),
+            row.count.to_string(),
+            time(row.compared),
+            time(restored.proved),
+            ratio(row.compared / restored.proved),
+            time(row.applied),
+            ratio(row.compared / row.applied),
+        ]
+    });
+    table(&head, 1, rows)
+}
+
+/// The times of an operation on the largest image.
+fn at_most_size(rows: &[Row], name: &str) -> Times {
+    let row = rows.iter().find(|row| row.name == name);
+    let [.., last] = row.expect("an operation that was measured").times;
+    last
 }
 
 /// The first columns, so many as `words` says, hold words, the others numbers.

@@ -70,6 +70,14 @@ pub fn topic_config(topic: &str, overrides: &[(&str, &str)]) -> MetadataRecord {
     })
 }
 
+/// As many configs of a topic as there may be, each as long as it may be.
+pub fn most_configs(topic: &str) -> MetadataRecord {
+    let value = "v".repeat(255);
+    let keys: Vec<String> = (0..64).map(|key| format!("{key:0>255}")).collect();
+    let configs: Vec<(&str, &str)> = keys.iter().map(|key| (&key[..], &value[..])).collect();
+    topic_config(topic, &configs)
+}
+
 pub fn metrics_config(name: &str, configs: &[(&str, &str)]) -> MetadataRecord {
     MetadataRecord::V1ClientMetricsConfig(ClientMetricsConfigRecord {
         name: name.to_owned(),
