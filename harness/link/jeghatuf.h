@@ -164,6 +164,12 @@ uint64_t jeghatuf_compare(uint8_t *first, size_t first_len, uint8_t *second, siz
                           const uint8_t *one, size_t one_len, const uint8_t *other, size_t other_len,
                           uint64_t *value, size_t value_len);
 
+/* Of 1 to 8 records the history of length 0 to 4 under a number from 0: shorter
+ * ones first, then by the records' positions, leftmost first. 26 for a number past
+ * the last. */
+uint64_t jeghatuf_history(const uint8_t *records, size_t records_len, uint64_t number,
+                          uint8_t *out, size_t out_len);
+
 /* Puts a node's throttle into value[0], in bytes a second; the kinds are 0 for
  * the leader's, 1 for the follower's, 2 between log directories. The value is 1,
  * or 0 where there is no throttle. */

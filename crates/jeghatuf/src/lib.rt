@@ -2,6 +2,7 @@
 // which is below 2^32. `unpacked` (`specs/Unpacked.antt`) proves for each of them that both are got back.
 mod comparisons;
 mod conversions;
+mod histories;
 mod images;
 mod lists;
 mod logs;

@@ -5,9 +5,11 @@
 --   each operation's value ................................ Values.Below, Values.read-below and its neighbours; a viewer's: Views
 --   the bytes written for a list of jobs .................. Jobs.freezes-below
 --   where two recordings part ............................. Comparisons.compare-below
+--   a short history's ..................................... Histories.history-below
 pub mod Records
 pub mod Listing
 pub mod Values
 pub mod Jobs
 pub mod Views
 pub mod Comparisons
+pub mod Histories

@@ -46,6 +46,8 @@
 --                                                           IndexesApart, ReadAtMostOnce, UnreadUnseen
 --   10, a dealer sees its own plans ....................... View.viewOf, NothingElseSeen, FreezeOfVisible
 --   11, two controllers' recordings ....................... Recordings.compareOf, Least, PartingIsLeast, OffsetApart, LeastIsOne
+--   12, all short histories of a few records .............. ShortHistory.historyAt, historyOf, UnderOneNumber, OnlyHistories, ShorterThenLeftmost,
+--                                                           NoneFromTheCount, EightRecords, PastTheLast
 pub mod Choice
 pub mod Number
 pub mod Text
@@ -76,3 +78,4 @@ pub mod History
 pub mod Convert
 pub mod LogFreeze
 pub mod Recordings
+pub mod ShortHistory

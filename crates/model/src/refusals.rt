@@ -66,3 +66,6 @@ pub const UNLAWFUL_NAME: u8 = 24;
 
 // A viewer's query: the name begins with none of the viewer's prefixes, whether or not it exists.
 pub const NOT_VISIBLE: u8 = 25;
+
+// A short history: its number is past the last.
+pub const PAST_THE_LAST: u8 = 26;

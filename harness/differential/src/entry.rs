@@ -14,6 +14,8 @@ mod logs;
 #[cfg(feature = "images")]
 mod restarts;
 #[cfg(feature = "images")]
+mod short;
+#[cfg(feature = "images")]
 mod views;
 
 #[cfg(feature = "images")]
@@ -28,6 +30,8 @@ pub use images::*;
 pub use logs::*;
 #[cfg(feature = "images")]
 pub use restarts::*;
+#[cfg(feature = "images")]
+pub use short::*;
 #[cfg(feature = "images")]
 pub use views::*;
 

@@ -31,7 +31,7 @@ pub use passes::{compare_named_passes, compare_passes};
 pub use quotas::{compare_named_quotas, compare_quotas};
 pub(crate) use recordings::without_effect;
 pub use recordings::{compare_named_recordings, compare_recordings};
-pub use short::compare_short;
+pub use short::{compare_drawn_numbers, compare_named_numbers, compare_short, compare_short_ends};
 pub use views::{compare_views, listed};
 
 use course::Course;
@@ -75,13 +75,14 @@ impl History {
             course
                 .take(&mut Tally::default(), input, self.validated)
                 .and_then(|_| behind(&course))
-                .map_err(|difference| self.tell(&difference, place))?;
+                .map_err(|difference| self.tell(&difference, place + 1))?;
         }
         Ok(course)
     }
 
-    fn tell(&self, difference: &str, place: usize) -> String {
-        let inputs: String = self.inputs[..=place]
+    /// A difference with the capacity and the first so many of the inputs.
+    fn tell(&self, difference: &str, count: usize) -> String {
+        let inputs: String = self.inputs[..count]
             .iter()
             .map(|input| told(input))
             .collect();

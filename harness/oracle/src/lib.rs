@@ -1,8 +1,8 @@
 //! The reference's answers in the scope paper's (01's) terms: what an image
 //! holds, in 01's order, and its bytes; whether bytes are an image; verdicts as
 //! 01's numbers; the listing for a downgrade; the freezes of a list of names;
-//! where two recordings part; generated histories; the stored histories of
-//! crates/test_replay; facts.
+//! where two recordings part; the numbers of short histories; generated
+//! histories; the stored histories of crates/test_replay; facts.
 
 pub mod cases;
 pub mod downgrade;
@@ -19,6 +19,7 @@ pub mod observe;
 pub mod order;
 pub mod recordings;
 pub mod replay;
+pub mod short_history;
 pub mod snapshot;
 pub mod stored;
 pub mod verdict;

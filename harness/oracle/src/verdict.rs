@@ -19,6 +19,8 @@ pub const MISPLACED_OFFSET: u8 = 22;
 pub const OFFSET_TOO_LOW: u8 = 23;
 /// A topic's name is unlawful.
 pub const UNLAWFUL_NAME: u8 = 24;
+/// The number of a short history is past the last.
+pub const PAST_THE_LAST: u8 = 26;
 
 /// Validate's number of a record: 24 by the harness's own rule on a topic's
 /// name, which the reference does not have, and else what `validate` says.

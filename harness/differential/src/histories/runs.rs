@@ -72,7 +72,7 @@ fn later(random: &mut Random, bytes: &[u8], run: &[u8]) -> Vec<u8> {
 }
 
 /// The records of a run.
-fn records(run: &[u8]) -> Vec<&[u8]> {
+pub fn records(run: &[u8]) -> Vec<&[u8]> {
     let (mut records, mut rest) = (Vec::new(), run);
     while let Ok(used) = read(rest) {
         records.push(&rest[..used]);

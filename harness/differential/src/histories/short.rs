@@ -1,46 +1,65 @@
-//! All short histories over small sets of records that meet at the same keys.
+//! All short histories over small sets of records that meet at the same keys,
+//! each drawn through the operation that writes the history under a number.
 
+mod beside;
+mod numbers;
 mod records;
 mod sets;
 
+pub use numbers::{compare_drawn_numbers, compare_named_numbers};
+
 use oracle::image::{FIXED_ROOM, weight};
+use oracle::short_history::LONGEST;
 use wire::encoded;
 
-use super::History;
-use super::course::Course;
 use super::reference::Reference;
+use super::runs;
 use crate::images::{Compared, Tally};
-use sets::sets;
-
-/// The most records of a history.
-const STEPS: usize = 4;
-/// Room for each of these histories.
-const ROOMY: usize = 4_096;
+use beside::{Beside, Ends};
+use sets::{Set, eights};
 
 /// Compares all histories of up to four records, over each of the sets. Every
 /// record is applied, also where Validate refuses it: a validated history is
-/// one of these, with the refused records left out.
+/// one of these, with the refused records left out. Of those that end with the
+/// same image the first is asked the questions at the end.
 pub fn compare_short(tally: &mut Tally) -> Compared {
-    for (name, records) in sets() {
-        let inputs: Vec<Vec<u8>> = records.iter().map(encoded).collect();
-        for capacity in capacities(&inputs) {
-            let course = Course::open(tally, capacity)?;
-            Walk::new(capacity, &inputs)
-                .compare(tally, &course)
-                .map_err(|difference| format!("the set {name}: {difference}"))?;
+    let compare = |set| compare_set(tally, &set, Ends::New);
+    eights().into_iter().try_for_each(compare)
+}
+
+/// The same of one set, by its number from 1 on, with the questions at the end of
+/// each history. Behind the last set comes the first again.
+pub fn compare_short_ends(tally: &mut Tally, number: u64) -> Compared {
+    let sets = eights();
+    let place = number.saturating_sub(1) % sets.len() as u64;
+    compare_set(tally, &sets[place as usize], Ends::Every)
+}
+
+/// All histories of a set's records, at each of the capacities.
+fn compare_set(tally: &mut Tally, (name, records): &Set, asked: Ends) -> Compared {
+    let inputs: Vec<Vec<u8>> = records.iter().map(encoded).collect();
+    compare_inputs(tally, &inputs, asked)
+        .map_err(|difference| format!("the set {name}: {difference}"))
+}
+
+fn compare_inputs(tally: &mut Tally, inputs: &[Vec<u8>], asked: Ends) -> Compared {
+    let histories = numbers::all(tally, inputs)?;
+    for capacity in capacities(inputs) {
+        let mut beside = Beside::open(tally, capacity, asked)?;
+        for history in &histories {
+            beside.compare(tally, &runs::records(history))?;
         }
     }
     Ok(())
 }
 
-/// All room; as much as the histories need, and one byte less; half of it, and
-/// as much as the heaviest record alone.
+/// Twice as much as the histories need; just as much, and one byte less; half of
+/// it, and as much as the heaviest record alone.
 fn capacities(inputs: &[Vec<u8>]) -> Vec<usize> {
     let fresh = Reference::new();
     let one = heaviest(&fresh, inputs, 1);
-    let all = heaviest(&fresh, inputs, STEPS);
-    assert!(all <= ROOMY, "a set of small records");
-    let mut capacities = vec![ROOMY, all, all - 1, all.midpoint(FIXED_ROOM), one];
+    let all = heaviest(&fresh, inputs, LONGEST);
+    let mut capacities = vec![2 * all, all, all - 1, all.midpoint(FIXED_ROOM), one];
     capacities.retain(|capacity| *capacity >= FIXED_ROOM);
     capacities.dedup();
     capacities
@@ -58,38 +77,4 @@ fn heaviest(reference: &Reference, inputs: &[Vec<u8>], steps: usize) -> usize {
         heaviest(&after, inputs, steps - 1)
     };
     inputs.iter().map(after).fold(own, usize::max)
-}
-
-/// A walk through the tree of histories: what they share is run once.
-struct Walk<'a> {
-    inputs: &'a [Vec<u8>],
-    /// The history so far.
-    path: History,
-}
-
-impl<'a> Walk<'a> {
-    fn new(capacity: usize, inputs: &'a [Vec<u8>]) -> Self {
-        let path = History {
-            capacity,
-            validated: false,
-            inputs: Vec::new(),
-        };
-        Self { inputs, path }
-    }
-
-    /// Each of the inputs next, then the histories that go on from there.
-    fn compare(&mut self, tally: &mut Tally, course: &Course) -> Compared {
-        if self.path.inputs.len() == STEPS {
-            return Ok(());
-        }
-        for input in self.inputs {
-            let mut next = course.clone();
-            self.path.inputs.push(input.clone());
-            next.take(tally, input, false)
-                .map_err(|difference| self.path.smallest(difference))?;
-            self.compare(tally, &next)?;
-            self.path.inputs.pop();
-        }
-        Ok(())
-    }
 }

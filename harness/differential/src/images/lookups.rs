@@ -15,6 +15,12 @@ pub use answer::{compare_record, compare_refused, compare_value};
 
 /// All lookups of `image`, which holds what the subject does.
 pub fn compare(tally: &mut Tally, subject: &Subject, image: &[u8]) -> Compared {
+    compare_stored(tally, subject, image)?;
+    subject.compare(tally, image, &[compare_bad_names])
+}
+
+/// Those by what is stored and by what is near it.
+pub fn compare_stored(tally: &mut Tally, subject: &Subject, image: &[u8]) -> Compared {
     let lookups: [On; 5] = [
         compare_topics,
         compare_ids,
@@ -32,11 +38,6 @@ fn compare_topics(tally: &mut Tally, subject: &Subject, image: &[u8]) -> Compare
         let question = || format!("the topic {name:?}");
         let call = |out: &mut [u8]| topic(image, name.as_bytes(), out);
         compare_record(tally, "topic by name", question, bytes(record), call)?;
-    }
-    for (name, number) in bad_names() {
-        let question = || format!("the topic {}", told(&name));
-        let call = |out: &mut [u8]| topic(image, &name, out);
-        compare_refused(tally, "topic by name", question, number, call)?;
     }
     Ok(())
 }
@@ -60,7 +61,14 @@ fn compare_partitions(tally: &mut Tally, subject: &Subject, image: &[u8]) -> Com
         let call = |out: &mut [u8]| partition(image, name.as_bytes(), number, out);
         compare_record(tally, "partition", question, bytes(record), call)?;
     }
+    Ok(())
+}
+
+fn compare_bad_names(tally: &mut Tally, _: &Subject, image: &[u8]) -> Compared {
     for (name, number) in bad_names() {
+        let question = || format!("the topic {}", told(&name));
+        let call = |out: &mut [u8]| topic(image, &name, out);
+        compare_refused(tally, "topic by name", question, number, call)?;
         let question = || format!("partition 0 of {}", told(&name));
         let call = |out: &mut [u8]| partition(image, &name, 0, out);
         compare_refused(tally, "partition", question, number, call)?;

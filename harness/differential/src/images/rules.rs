@@ -21,6 +21,12 @@ pub const LEVELS: [i16; 10] = [i16::MIN, -1, 0, 16, 17, 18, 29, 30, 31, i16::MAX
 
 /// All of them on `image`, which holds what the subject does.
 pub fn compare(tally: &mut Tally, subject: &Subject, image: &[u8]) -> Compared {
+    compare_stored(tally, subject, image)?;
+    subject.compare(tally, image, &[compare_bad_names])
+}
+
+/// Those by what is stored and by what is near it.
+pub fn compare_stored(tally: &mut Tally, subject: &Subject, image: &[u8]) -> Compared {
     let rules: [On; 4] = [
         compare_freezes,
         compare_throttles,
@@ -51,6 +57,10 @@ fn compare_freezes(tally: &mut Tally, subject: &Subject, image: &[u8]) -> Compar
         let call = |out: &mut [u8]| freeze(image, name.as_bytes(), out);
         compare_record(tally, "freeze", question, record, call)?;
     }
+    Ok(())
+}
+
+fn compare_bad_names(tally: &mut Tally, _: &Subject, image: &[u8]) -> Compared {
     for (name, number) in bad_names() {
         let question = || format!("the freeze of {}", told(&name));
         let call = |out: &mut [u8]| freeze(image, &name, out);

@@ -37,6 +37,11 @@ impl Subject {
             }
         }
         let observed = observe(&image, &witness).at(records.len() as i64 - 1);
+        Self::beside(image, observed)
+    }
+
+    /// An image with what is observed of it.
+    pub fn beside(image: MetadataImage, observed: Observed) -> Self {
         Self {
             layout: layout(&observed),
             weight: weight(&observed),

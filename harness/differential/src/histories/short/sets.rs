@@ -6,15 +6,30 @@ use oracle::facts::build::{
     group_config, id, kraft_version, metrics_config, offset_advance, partition, partition_record,
     producer_ids, quota, recovered, recovering, thaw, topic, topic_config,
 };
+use oracle::short_history::MOST_RECORDS;
 
 use super::records::{
     change, controller, delete_proposal, proposal, registration, unregister, unregister_controller,
     update,
 };
 
-type Set = (&'static str, Vec<MetadataRecord>);
+pub type Set = (&'static str, Vec<MetadataRecord>);
 
-pub fn sets() -> [Set; 14] {
+/// The sets, those of more than eight records as two of eight that overlap: in
+/// them what stands first and what stands last does not meet.
+pub fn eights() -> Vec<Set> {
+    let mut all = Vec::new();
+    for (name, records) in sets() {
+        let left_out = records.len().saturating_sub(MOST_RECORDS);
+        if left_out > 0 {
+            all.push((name, records[left_out..].to_vec()));
+        }
+        all.push((name, records[..records.len() - left_out].to_vec()));
+    }
+    all
+}
+
+fn sets() -> [Set; 14] {
     [
         ("topics and ids", topics()),
         ("partitions of topics", partitions()),
@@ -33,8 +48,7 @@ pub fn sets() -> [Set; 14] {
     ]
 }
 
-/// An id under two names, one of them an old one, a name with two ids, and
-/// deletions.
+/// An id under two names, a name with two ids, and deletions.
 fn topics() -> Vec<MetadataRecord> {
     vec![
         topic("p", 1, 0, 1),
@@ -42,7 +56,6 @@ fn topics() -> Vec<MetadataRecord> {
         topic("p", 1, 9, 2),
         topic("q", 1, 0, 1),
         topic("q", 2, 0, 1),
-        topic("Smith/2", 1, 0, 1),
         delete_topic("p"),
         delete_topic("q"),
         partition_record("q", 0, &[1]),
@@ -63,9 +76,11 @@ fn partitions() -> Vec<MetadataRecord> {
     ]
 }
 
-/// Each kind of entry that a deletion takes along, and one that stays.
+/// Each kind of entry that a deletion takes along, and at both ends one that
+/// stays.
 fn deleted() -> Vec<MetadataRecord> {
     vec![
+        offset_advance("pp", 0, 5),
         topic("p", 1, 0, 1),
         delete_topic("p"),
         partition_record("p", 0, &[1]),
@@ -73,7 +88,6 @@ fn deleted() -> Vec<MetadataRecord> {
         elr("p", 0, &[1], &[]),
         recovering("p", 1),
         topic_config("p", &[("a", "b")]),
-        offset_advance("pp", 0, 5),
         freeze("p", PatternType::Literal),
     ]
 }
@@ -109,15 +123,15 @@ fn quotas() -> Vec<MetadataRecord> {
     ]
 }
 
-/// Registrations at two epochs, their changes and their ends.
+/// Registrations at two epochs, their changes and their ends, and producer ids.
 fn brokers() -> Vec<MetadataRecord> {
     vec![
+        registration(2, 1),
+        change(1, 1, FencingChange::Unfence, &[], Some(&[5])),
         registration(1, 1),
         registration(1, 2),
-        registration(2, 1),
         change(1, 1, FencingChange::Fence, &[3, 4], Some(&[])),
         change(1, 2, FencingChange::None, &[], None),
-        change(1, 1, FencingChange::Unfence, &[], Some(&[5])),
         unregister(1, 1),
         unregister(1, 2),
         producer_ids(1, 1, 5),
@@ -127,12 +141,12 @@ fn brokers() -> Vec<MetadataRecord> {
 
 fn controllers() -> Vec<MetadataRecord> {
     vec![
+        kraft_version(1),
         controller(1, 1, None),
         controller(1, 2, Some("kraft.version")),
         controller(2, 1, Some("")),
         unregister_controller(1),
         unregister_controller(2),
-        kraft_version(1),
         kraft_version(0),
         kraft_version(u16::MAX),
         registration(1, 1),
@@ -146,12 +160,12 @@ fn states() -> Vec<MetadataRecord> {
         LeaderRecoveryState::Recovering,
     );
     vec![
-        partition_record("p", 0, &[1]),
-        elr("p", 0, &[1], &[]),
         elr("p", 0, &[], &[2, 3]),
         elr("p", 0, &[], &[]),
-        recovering("p", 0),
         recovered("p", 0),
+        partition_record("p", 0, &[1]),
+        elr("p", 0, &[1], &[]),
+        recovering("p", 0),
         update(Some(&[4]), Some(&[]), Some(going)),
         update(Some(&[]), Some(&[]), Some(done)),
         update(Some(&[5]), None, None),
@@ -160,8 +174,7 @@ fn states() -> Vec<MetadataRecord> {
     ]
 }
 
-/// Slots: with fewer directories than replicas, with more; and a node twice,
-/// which is refused.
+/// Slots: with fewer directories than replicas, with more, with none.
 fn directories() -> Vec<MetadataRecord> {
     let mut longer = partition("p", 0, &[1, 2]);
     longer.directories = [6, 7, 8].map(id).to_vec();
@@ -170,7 +183,7 @@ fn directories() -> Vec<MetadataRecord> {
     vec![
         MetadataRecord::V1Partition(longer),
         MetadataRecord::V1Partition(shorter),
-        partition_record("p", 0, &[2, 2]),
+        partition_record("p", 1, &[2]),
         dir_assignment("p", 0, 3, 9),
         dir_assignment("p", 0, 2, 9),
         dir_assignment("p", 0, 1, 0),
@@ -196,6 +209,7 @@ fn features() -> Vec<MetadataRecord> {
 /// Sums at both ends of i64, and beyond them.
 fn offsets() -> Vec<MetadataRecord> {
     vec![
+        offset_advance("q", -1, i64::MAX),
         offset_advance("p", 0, i64::MAX),
         offset_advance("p", 0, i64::MIN),
         offset_advance("p", 0, i64::MAX - 1),
@@ -203,7 +217,6 @@ fn offsets() -> Vec<MetadataRecord> {
         offset_advance("p", 0, -1),
         offset_advance("p", 0, 0),
         offset_advance("p", 1, i64::MIN),
-        offset_advance("q", -1, i64::MAX),
         delete_topic("p"),
     ]
 }

@@ -1,0 +1,1 @@
+// Laws of the numbers of short histories. See `specs/`.

@@ -1,0 +1,5 @@
+pub mod Counting
+pub mod Lengths
+pub mod Places
+pub mod Written
+pub mod Exits
