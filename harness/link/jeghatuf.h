@@ -3,8 +3,8 @@
  * No call asks anything of the bytes that it is given, and none keeps a
  * pointer. A list goes as a pointer, which is never null, and how many elements
  * it has. A list that is written to overlaps no other one. A number that goes
- * to value[0], values[1], place[0] or read[0] is lost where that list has no such
- * element.
+ * to value[0], values[1], place[0], read[0] or used[0] is lost where that list has
+ * no such element.
  *
  * Where nothing else is said, an answer is packed: a refusal's number, 0 where
  * there is none, times 2^32, plus a value: the bytes used or written, or a
@@ -169,6 +169,18 @@ uint64_t jeghatuf_compare(uint8_t *first, size_t first_len, uint8_t *second, siz
  * the last. */
 uint64_t jeghatuf_history(const uint8_t *records, size_t records_len, uint64_t number,
                           uint8_t *out, size_t out_len);
+
+/* A record in Kafka's own bytes (TopicRecord, FeatureLevelRecord,
+ * ProducerIdsRecord, UnregisterBrokerRecord, version 0, in KIP-631's frame,
+ * version 1) as one of ours. The bytes written; used[0] gets how many bytes of the
+ * input were used. */
+uint64_t jeghatuf_kafka_read(const uint8_t *input, size_t input_len, uint8_t *out, size_t out_len,
+                             uint64_t *used, size_t used_len);
+
+/* One of ours in Kafka's own bytes. 3 for a kind beyond those four, 27 for a
+ * broker from 2^31 on. The bytes written. */
+uint64_t jeghatuf_kafka_write(const uint8_t *input, size_t input_len, uint8_t *out,
+                              size_t out_len);
 
 /* Puts a node's throttle into value[0], in bytes a second; the kinds are 0 for
  * the leader's, 1 for the follower's, 2 between log directories. The value is 1,

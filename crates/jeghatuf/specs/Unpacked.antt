@@ -22,6 +22,7 @@ use Rattle.model.specs.View.{viewSnapshotOf, viewTopicOf, viewPartitionOf, view
 use Rattle.model.specs.Recordings.{compareOf}
 use Rattle.model.specs.Downgrade.{downgradeOf}
 use Rattle.model.specs.ShortHistory.{historyOf}
+use Rattle.model.specs.Kafka.{readKafkaOf, writeKafkaOf}
 use Rattle.model.specs.declared.Kind.{Kind}
 use Rattle.laws_answers.specs.Values.{Below, none-below, read-below, write-below, open-below, validate-below, apply-below, topic-below, topic-id-below}
 use Rattle.laws_answers.specs.Values.{partition-below, broker-below, short-below, freeze-below, throttle-once, snapshot-below, downgrade-below}
@@ -29,6 +30,7 @@ use Rattle.laws_answers.specs.Jobs.{freezes-below}
 use Rattle.laws_answers.specs.Views.{view-snapshot-below, view-topic-below, view-partition-below, view-freeze-below}
 use Rattle.laws_answers.specs.Comparisons.{compare-below}
 use Rattle.laws_answers.specs.Histories.{history-below}
+use Rattle.laws_answers.specs.Kafka.{kafka-read-below, kafka-write-below}
 use Rattle.packing.specs.Undone.{PackedBack, CountedBack, AloneBack, packed-undone, counted-undone, alone-undone}
 use Rattle.jeghatuf.specs.Write.{writeOfNumber}
 
@@ -54,6 +56,8 @@ pub record Unpacked : Type 0 where
   pub jeghatuf-view-partition : (image list name : Bytes) (number : ℕ) (out : Bytes) → AreBytes image → PackedBack (viewPartitionOf image list name number out .reply)
   pub jeghatuf-view-freeze : (image list name out : Bytes) → AreBytes image → PackedBack (viewFreezeOf image list name out .reply)
   pub jeghatuf-history : (input : Bytes) (number : ℕ) (out : Bytes) → PackedBack (historyOf input number out .reply)
+  pub jeghatuf-kafka-read : (input out : Bytes) → PackedBack (readKafkaOf input out .reply)
+  pub jeghatuf-kafka-write : (input out : Bytes) → PackedBack (writeKafkaOf input out .reply)
   -- how many values came: the value itself is in the lent list
   pub jeghatuf-throttle : (image : Bytes) (node kind : ℕ) → CountedBack (throttleOf image node kind)
   -- a number alone: the values are in the lent list
@@ -97,6 +101,8 @@ unpacked = record {
       packed-undone (viewPartitionOf image list name number out .reply) (view-partition-below image b list name number out);
   jeghatuf-view-freeze = λ image list name out b. packed-undone (viewFreezeOf image list name out .reply) (view-freeze-below image b list name out);
   jeghatuf-history = λ input number out. packed-undone (historyOf input number out .reply) (history-below input number out);
+  jeghatuf-kafka-read = λ input out. packed-undone (readKafkaOf input out .reply) (kafka-read-below input out);
+  jeghatuf-kafka-write = λ input out. packed-undone (writeKafkaOf input out .reply) (kafka-write-below input out);
   jeghatuf-throttle = λ image node kind. counted-undone (throttleOf image node kind) (omega (arith, throttle-once image node kind));
   jeghatuf-features-epoch = λ image. alone-undone (epochOf image);
   jeghatuf-log-offset = λ image. alone-undone (offsetOf image);

@@ -4,6 +4,7 @@ mod comparisons;
 mod conversions;
 mod histories;
 mod images;
+mod kafka;
 mod lists;
 mod logs;
 mod restarts;

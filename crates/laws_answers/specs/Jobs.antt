@@ -16,7 +16,7 @@ use Rattle.laws_freezes.specs.Sizes.{indexes-length, listed-few}
 use Rattle.laws_answers.specs.Values.{Below, none-below}
 
 -- further values do not move the first
-said-below : (s out : Bytes) (vs : List ℕ) → length s < 4294967296 → Below (alsoSays vs (emitBytes s out) .reply)
+pub said-below : (s out : Bytes) (vs : List ℕ) → length s < 4294967296 → Below (alsoSays vs (emitBytes s out) .reply)
 unfolding emitBytes
 said-below s out vs h = go (leb (length s) (length out))
   where

@@ -6,6 +6,7 @@
 --   the bytes written for a list of jobs .................. Jobs.freezes-below
 --   where two recordings part ............................. Comparisons.compare-below
 --   a short history's ..................................... Histories.history-below
+--   Kafka's record bytes, both ways ....................... Kafka.kafka-read-below, kafka-write-below
 pub mod Records
 pub mod Listing
 pub mod Values
@@ -13,3 +14,4 @@ pub mod Jobs
 pub mod Views
 pub mod Comparisons
 pub mod Histories
+pub mod Kafka

@@ -48,6 +48,7 @@
 --   11, two controllers' recordings ....................... Recordings.compareOf, Least, PartingIsLeast, OffsetApart, LeastIsOne
 --   12, all short histories of a few records .............. ShortHistory.historyAt, historyOf, UnderOneNumber, OnlyHistories, ShorterThenLeftmost,
 --                                                           NoneFromTheCount, EightRecords, PastTheLast
+--   13, Kafka's own record bytes .......................... Kafka.readKafkaOf, writeKafkaOf, KafkaReadsBack, KafkaWritesBack
 pub mod Choice
 pub mod Number
 pub mod Text
@@ -79,3 +80,4 @@ pub mod Convert
 pub mod LogFreeze
 pub mod Recordings
 pub mod ShortHistory
+pub mod Kafka

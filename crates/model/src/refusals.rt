@@ -69,3 +69,6 @@ pub const NOT_VISIBLE: u8 = 25;
 
 // A short history: its number is past the last.
 pub const PAST_THE_LAST: u8 = 26;
+
+// Kafka's record bytes: a number that Kafka's field cannot hold, after Read's and 3.
+pub const NOT_KAFKAS: u8 = 27;

@@ -4,6 +4,7 @@
 mod changes;
 mod conversions;
 mod freezes;
+mod kafka;
 mod logs;
 mod lookups;
 mod numbers;
@@ -49,6 +50,7 @@ pub struct Figures {
     freezes: Vec<Freezes>,
     views: Vec<View>,
     recordings: Vec<Recordings>,
+    kafka: Vec<Record>,
 }
 
 impl Figures {
@@ -68,6 +70,7 @@ impl Figures {
                 freezes: frozen.measure(),
                 views: views::measure(&images[SIZES.len() - 1]),
                 recordings: recordings::measure(&images[SIZES.len() - 1]),
+                kafka: kafka::measure(),
             }
         });
         passes.reduce(Self::best).expect("a pass")
@@ -84,6 +87,7 @@ impl Figures {
         let freezes = self.freezes.into_iter().zip(other.freezes);
         let views = self.views.into_iter().zip(other.views);
         let recordings = self.recordings.into_iter().zip(other.recordings);
+        let kafka = self.kafka.into_iter().zip(other.kafka);
         Self {
             counts: self.counts,
             rows: rows.map(|(one, other)| one.best(&other)).collect(),
@@ -94,6 +98,7 @@ impl Figures {
             freezes: freezes.map(|(one, other)| one.best(&other)).collect(),
             views: views.map(|(one, other)| one.best(&other)).collect(),
             recordings: recordings.map(|(one, other)| one.best(&other)).collect(),
+            kafka: kafka.map(|(one, other)| one.best(&other)).collect(),
         }
     }
 

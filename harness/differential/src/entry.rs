@@ -10,6 +10,8 @@ mod freezes;
 #[cfg(feature = "images")]
 mod images;
 #[cfg(feature = "images")]
+mod kafka;
+#[cfg(feature = "images")]
 mod logs;
 #[cfg(feature = "images")]
 mod restarts;
@@ -26,6 +28,8 @@ pub use conversions::*;
 pub use freezes::*;
 #[cfg(feature = "images")]
 pub use images::*;
+#[cfg(feature = "images")]
+pub use kafka::*;
 #[cfg(feature = "images")]
 pub use logs::*;
 #[cfg(feature = "images")]

@@ -135,7 +135,7 @@ fn expect(tally: &mut Tally, what: &'static str, number: u8, expected: u8) -> Co
 
 /// The lengths of outputs: one byte too few where there can be, as many as are
 /// wanted, and more.
-fn rooms(random: &mut Random, wanted: usize) -> [usize; 3] {
+pub(crate) fn rooms(random: &mut Random, wanted: usize) -> [usize; 3] {
     [
         wanted.saturating_sub(1),
         wanted,

@@ -9,6 +9,10 @@ pub mod histories;
 #[cfg(feature = "images")]
 pub mod images;
 mod inputs;
+#[cfg(feature = "images")]
+pub mod kafka;
+#[cfg(feature = "images")]
+mod lent;
 mod offsets;
 mod program;
 mod replicas;

@@ -1,11 +1,13 @@
 //! The record bytes of docs/FORMAT.md: the shape table, a reader, and the
-//! reference's records to bytes and back, damaged copies, and random numbers.
+//! reference's records to bytes and back, Kafka's own bytes of some records,
+//! damaged copies, and random numbers.
 
 pub mod choices;
 mod damage;
 mod decode;
 mod encode;
 mod hex;
+pub mod kafka;
 mod offset;
 mod random;
 mod read;

@@ -109,7 +109,7 @@ fn check_choice(value: &[u8], values: usize) -> Result<(), u8> {
     well_formed(matches!(value, [byte] if usize::from(*byte) < values))
 }
 
-fn check_string(value: &[u8], limit: usize) -> Result<(), u8> {
+pub(crate) fn check_string(value: &[u8], limit: usize) -> Result<(), u8> {
     well_formed(str::from_utf8(value).is_ok())?;
     within(value.len(), limit)
 }
@@ -139,7 +139,7 @@ fn check_set(value: &[u8], limit: usize) -> Result<(), u8> {
     }
 }
 
-fn well_formed(holds: bool) -> Result<(), u8> {
+pub(crate) fn well_formed(holds: bool) -> Result<(), u8> {
     if holds { Ok(()) } else { Err(WRONG_FIELD) }
 }
 

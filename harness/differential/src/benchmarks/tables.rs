@@ -37,6 +37,8 @@ pub fn tables(figures: &Figures) -> String {
         "Two recordings of the records that fill 64 KB, beside other calls that apply as many:\n"
             .to_owned(),
         recordings(&figures.recordings, &figures.rows),
+        "Kafka's record bytes, read and written, beside the harness's own:\n".to_owned(),
+        records(&figures.kafka),
     ]
     .join("\n")
 }

@@ -3,6 +3,7 @@
 mod damage;
 mod faults;
 mod format;
+mod kafka;
 mod limits;
 mod round_trip;
 mod runs;

@@ -3,15 +3,12 @@
 use krabka_metadata::{MetadataImage, MetadataRecord, TopicFreezeRecord};
 use oracle::freeze_list::{MOST_NAMES, index, names, read, stored};
 use oracle::verdict::NO_IMAGE;
-use wire::{Random, TOO_SHORT, encoded, hex};
+use wire::{Random, encoded, hex};
 
-use crate::histories::rooms;
 use crate::images::{Compared, Tally, shown};
+use crate::lent::compare_lent;
 use crate::{freeze, freezes};
 
-/// What a place of the lent list holds before a call: no image has so many
-/// freezes.
-const NOT_SET: u64 = u64::MAX - 77;
 /// No freeze's record is longer.
 const MOST_RECORD: usize = 1_700;
 
@@ -25,9 +22,6 @@ pub struct Asked<'a> {
 /// What is expected of a list where the output has room for it: the indexes,
 /// and how many freezes are read; or the refusal.
 type Expected = Result<(Vec<u16>, u64), u8>;
-
-/// What a call says, and how it leaves the output and the lent list.
-type Ended = (Result<usize, u8>, Vec<u8>, Vec<u64>);
 
 impl<'a> Asked<'a> {
     /// The buffer holds what the reference's image does.
@@ -105,8 +99,7 @@ pub fn compare_no_image(
         .try_for_each(|list| compare_calls(tally, random, buffer, list, &Err(NO_IMAGE)))
 }
 
-/// Into outputs that are empty, one byte too short, just so and longer, with
-/// none, one and two places for the freezes read.
+/// One list into outputs of several lengths.
 fn compare_calls(
     tally: &mut Tally,
     random: &mut Random,
@@ -114,44 +107,16 @@ fn compare_calls(
     list: &[u8],
     expected: &Expected,
 ) -> Compared {
-    let names = expected
-        .as_ref()
-        .map_or(MOST_NAMES, |(names, _)| names.len());
-    let [short, just, longer] = rooms(random, 2 * names);
-    for (room, places) in [(0, 1), (short, 1), (just, 0), (just, 1), (longer, 2)] {
-        let (mut out, mut read) = (random.bytes(room), vec![NOT_SET; places]);
-        let expected = ended(expected, &out, &read);
-        let answer = freezes(buffer, list, &mut out, &mut read);
-        tally.count("lists", expected.0.map_or_else(|number| number, |_| 0));
-        let end = (answer, out, read);
-        if end != expected {
-            let (list, image) = (hex(list), shown(buffer));
-            return Err(format!(
-                "{end:x?}\nexpected is {expected:x?}\nof the list {list}\non {image}"
-            ));
-        }
-    }
-    Ok(())
+    let expected = expected.as_ref().map_err(|number| *number);
+    let expected = expected.map(|(indexes, read)| (bytes(indexes), *read));
+    let call = |out: &mut [u8], read: &mut [u64]| freezes(buffer, list, out, read);
+    compare_lent(tally, random, "lists", &expected, 2 * MOST_NAMES, call).map_err(|difference| {
+        let (list, image) = (hex(list), shown(buffer));
+        format!("{difference}\nof the list {list}\non {image}")
+    })
 }
 
-/// A refusal leaves both as they were, and is 19 where the indexes are more than
-/// the output takes.
-fn ended(expected: &Expected, out: &[u8], read: &[u64]) -> Ended {
-    let (mut out, mut read) = (out.to_vec(), read.to_vec());
-    let (indexes, count) = match expected {
-        Ok(expected) => expected,
-        Err(number) => return (Err(*number), out, read),
-    };
-    let bytes: Vec<u8> = indexes
-        .iter()
-        .flat_map(|index| index.to_be_bytes())
-        .collect();
-    match out.get_mut(..bytes.len()) {
-        Some(place) => place.copy_from_slice(&bytes),
-        None => return (Err(TOO_SHORT), out, read),
-    }
-    if let Some(place) = read.first_mut() {
-        *place = *count;
-    }
-    (Ok(bytes.len()), out, read)
+fn bytes(indexes: &[u16]) -> Vec<u8> {
+    let bytes = indexes.iter().map(|index| index.to_be_bytes());
+    bytes.flatten().collect()
 }

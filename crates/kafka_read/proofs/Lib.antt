@@ -1,0 +1,4 @@
+pub mod Texts
+pub mod Rests
+pub mod Emitted
+pub mod Taken
