@@ -1,7 +1,7 @@
 /* Reads a file of records into an image, restarts it, and says which partitions
  * of a plan exist before and after: partition 0 is the plan's room list,
  * partition 1 its load sheet. */
-#include "jeghatuf.h"
+#include <jeghatuf.h>
 
 #include <inttypes.h>
 #include <stdio.h>
@@ -14,11 +14,11 @@ static const uint8_t PLAN[] = "plan-0042";
 
 /* The value of an answer. A refusal ends the program. */
 static uint32_t value(const char *call, uint64_t answer) {
-    if (jeghatuf_refusal(answer) != 0) {
-        fprintf(stderr, "%s: refused, %" PRIu32 "\n", call, jeghatuf_refusal(answer));
+    if (jeghatuf_refusal_of(answer) != JEGHATUF_ACCEPTED) {
+        fprintf(stderr, "%s: refused, %d\n", call, jeghatuf_refusal_of(answer));
         exit(EXIT_FAILURE);
     }
-    return jeghatuf_value(answer);
+    return jeghatuf_value_of(answer);
 }
 
 /* The bytes of a file, which has to be shorter than the buffer. */
@@ -44,13 +44,14 @@ static void take(uint8_t *image, const uint8_t *records, size_t length) {
     for (size_t at = 0, used; at < length; at += used) {
         used = value("Read", jeghatuf_read(records + at, length - at));
         uint64_t answer = jeghatuf_validate(image, CAPACITY, records + at, used);
-        if (jeghatuf_refusal(answer) == 0) {
+        if (jeghatuf_refusal_of(answer) == JEGHATUF_ACCEPTED) {
             answer = jeghatuf_apply(image, CAPACITY, count, records + at, used);
         }
-        if (jeghatuf_refusal(answer) != 0) {
-            printf("byte %zu: refused, %" PRIu32 "\n", at, jeghatuf_refusal(answer));
+        if (jeghatuf_refusal_of(answer) == JEGHATUF_ACCEPTED) {
+            applied++;
+        } else {
+            printf("byte %zu: refused, %d\n", at, jeghatuf_refusal_of(answer));
         }
-        applied += jeghatuf_refusal(answer) == 0;
         count++;
     }
     printf("%u records, %u applied\n", count, applied);
