@@ -1,5 +1,5 @@
-//! The proved library's entry points as safe functions, and the inputs on which
-//! the programs of this crate compare and time them.
+//! The proved library's entry points, by the crate `jeghatuf` in `bindings/rust`, and the
+//! inputs on which the programs of this crate compare and time them.
 
 #[cfg(feature = "images")]
 pub mod benchmarks;
