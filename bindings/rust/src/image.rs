@@ -191,7 +191,7 @@ impl Image {
     /// The image's log offset and its records, in the order of their keys: what
     /// [`restore`](Image::restore) takes and [`records`](crate::records) goes through.
     pub fn snapshot(&self) -> Result<Vec<u8>, Refusal> {
-        self.written(|image, out| calls::snapshot(image, out))
+        self.written(calls::snapshot)
     }
 
     /// The records that take the image to a metadata level; once they are applied in

@@ -1,7 +1,7 @@
 //! What the records of each kind have, field by field, by the names of `docs/FORMAT.md`.
 //!
 //! Each is a plain struct: fill it in and [`record`](Topic::record) gives the
-//! [`Record`](crate::Record), or the refusal of the first faulty field; of a record that
+//! [`Record`], or the refusal of the first faulty field; of a record that
 //! is there, [`of`](Topic::of) gives the struct.
 //!
 //! ```
