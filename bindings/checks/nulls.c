@@ -27,6 +27,8 @@ static void without_image(void) {
     hold("read", jeghatuf_read(NULL, 0), JEGHATUF_PAST_THE_END, 0);
     hold("write", jeghatuf_write(JEGHATUF_TOPIC, NULL, 0, NULL, 0, NULL, 0, NULL, 0), JEGHATUF_WRONG, 0);
     hold("write", jeghatuf_write(0, NULL, 0, NULL, 0, NULL, 0, NULL, 0), JEGHATUF_UNKNOWN_KIND, 0);
+    hold("field", jeghatuf_field(NULL, 0, JEGHATUF_FIRST_FIELD, 1, NULL, 0), 0, 0);
+    hold("field", jeghatuf_field(LEVEL, sizeof LEVEL, JEGHATUF_FIRST_FIELD, 1, NULL, 0), 0, 1);
     hold("open", jeghatuf_open(NULL, 0), JEGHATUF_NO_IMAGE, 0);
     hold("is_image", jeghatuf_is_image(NULL, 0), 0, 0);
     hold("validate", jeghatuf_validate(NULL, 0, NULL, 0), JEGHATUF_NO_IMAGE, 0);

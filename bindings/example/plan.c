@@ -57,11 +57,28 @@ static void take(uint8_t *image, const uint8_t *records, size_t length) {
     printf("%u records, %u applied\n", count, applied);
 }
 
-/* Whether a partition of the plan exists. */
-static const char *exists(const uint8_t *image, uint32_t number) {
+/* The number of a record's field, which has at most eight bytes; 0 where there is no
+ * such field. */
+static uint64_t number_in(const uint8_t *record, size_t length, enum jeghatuf_tag tag) {
+    uint64_t place[2] = {0, 0}, number = 0;
+    jeghatuf_field(record, length, JEGHATUF_FIRST_FIELD, (uint8_t)tag, place, 2);
+    for (uint64_t i = 0; i < place[1]; i++) {
+        number = number << 8 | record[place[0] + i];
+    }
+    return number;
+}
+
+/* Says whether a partition of the plan exists, and which node leads it. */
+static void say_partition(const uint8_t *image, uint32_t number) {
     uint8_t out[CAPACITY];
     uint64_t answer = jeghatuf_partition(image, CAPACITY, PLAN, sizeof PLAN - 1, number, out, sizeof out);
-    return value("partition", answer) > 0 ? "yes" : "no";
+    uint32_t length = value("partition", answer);
+    if (length == 0) {
+        printf("partition %" PRIu32 " no", number);
+        return;
+    }
+    printf("partition %" PRIu32 " yes, led by %" PRIu64, number,
+           number_in(out, length, JEGHATUF_TAG_PARTITION_LEADER));
 }
 
 /* The log offset of the last record applied. */
@@ -72,8 +89,11 @@ static int64_t log_offset(const uint8_t *image) {
 }
 
 static void say(const uint8_t *image, const char *when) {
-    printf("%s, %s: partition 0 %s, partition 1 %s; log offset %" PRId64 "\n", (const char *)PLAN, when,
-           exists(image, 0), exists(image, 1), log_offset(image));
+    printf("%s, %s: ", (const char *)PLAN, when);
+    say_partition(image, 0);
+    printf(", ");
+    say_partition(image, 1);
+    printf("; log offset %" PRId64 "\n", log_offset(image));
 }
 
 int main(int argc, char **argv) {

@@ -46,6 +46,9 @@ extern "C" {
 #define JEGHATUF_ENTITY_LIMIT 8
 #define JEGHATUF_MOST_RECORD 33477
 
+/* Where a record's first field begins: behind its kind and its body's length. */
+#define JEGHATUF_FIRST_FIELD 3
+
 /* The names of jeghatuf_freezes, the prefixes of a viewer, the records of
  * jeghatuf_history and the records of one of its histories. */
 #define JEGHATUF_JOB_LIMIT 256
@@ -61,9 +64,10 @@ extern "C" {
 #define JEGHATUF_DEFAULT_NODE UINT64_C(0xFFFFFFFFFFFFFFFF)
 
 /* The stack that a call needs at most, in bytes: jeghatuf_compare; jeghatuf_apply
- * and jeghatuf_restore; jeghatuf_open, jeghatuf_read and jeghatuf_write; every other
- * call. The caller's own is not counted. JEGHATUF_STACK serves every call. (Measured
- * on x86-64, in threads of falling size: 450, 316, 16 and 72 KB served.) */
+ * and jeghatuf_restore; jeghatuf_open, jeghatuf_read, jeghatuf_write and
+ * jeghatuf_field; every other call. The caller's own is not counted. JEGHATUF_STACK
+ * serves every call. (Measured on x86-64, in threads of falling size: 450, 316, 16 and
+ * 72 KB served.) */
 #define JEGHATUF_STACK_COMPARE 589824
 #define JEGHATUF_STACK_APPLY 393216
 #define JEGHATUF_STACK_RECORD 16384
@@ -341,6 +345,16 @@ uint64_t jeghatuf_read(const uint8_t *input, size_t input_len);
 uint64_t jeghatuf_write(uint8_t kind, const uint8_t *tags, size_t tags_len, const uint16_t *lengths,
                         size_t lengths_len, const uint8_t *values, size_t values_len, uint8_t *out,
                         size_t out_len);
+
+/* Seeks a field by its tag, one of enum jeghatuf_tag, from the place `at` on. Not
+ * packed: 1 where there is one, place[0] getting the place of its value and place[1]
+ * how long that is; else 0. Never refuses. The fields of a record, of which
+ * jeghatuf_read says how many bytes it has, begin at JEGHATUF_FIRST_FIELD. Where a
+ * field repeats, the next one is found from the end of a value on. The fields of an
+ * element or of a nested partition begin at the place of its value, and the bytes are
+ * to end where it does. */
+uint64_t jeghatuf_field(const uint8_t *bytes, size_t bytes_len, size_t at, uint8_t tag, uint64_t *place,
+                        size_t place_len);
 
 /* Images: buffers of JEGHATUF_LEAST_CAPACITY to JEGHATUF_MOST_CAPACITY bytes. A call
  * on a buffer that is no image refuses by 1, whatever its bytes are. */

@@ -44,11 +44,15 @@ fn taken(run: &[u8]) -> Answer<Image> {
     Ok(image)
 }
 
-/// Says whether partitions 0 and 1 exist, and how far the image got in the log.
+/// Says whether partitions 0 and 1 exist, which node leads them, and how far the image got
+/// in the log.
 fn say(image: &Image, when: &str) -> Answer<()> {
     let exists = |number| {
         let partition = image.partition(PLAN, number)?;
-        Ok::<_, jeghatuf::Refusal>(if partition.is_some() { "yes" } else { "no" })
+        Ok::<_, jeghatuf::Refusal>(match partition {
+            Some(partition) => format!("yes, led by {}", partition.leader),
+            None => "no".into(),
+        })
     };
     let (rooms, loads, offset) = (exists(0)?, exists(1)?, image.log_offset()?);
     println!("{PLAN}, {when}: partition 0 {rooms}, partition 1 {loads}; log offset {offset}");

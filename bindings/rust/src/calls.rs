@@ -61,6 +61,22 @@ pub fn write(kind: u8, tags: &[u8], lengths: &[u16], values: &[u8], out: &mut [u
     })
 }
 
+/// Seeks a field of a tag from the place `at` on: 1 where there is one, its value's place
+/// and length being put into the first two of `place`; else 0.
+pub fn field(bytes: &[u8], at: usize, tag: u8, place: &mut [u64]) -> u64 {
+    // SAFETY: each pointer and length are a slice's, and `place` is borrowed alone.
+    unsafe {
+        raw::jeghatuf_field(
+            bytes.as_ptr(),
+            bytes.len(),
+            at,
+            tag,
+            place.as_mut_ptr(),
+            place.len(),
+        )
+    }
+}
+
 /// Makes the buffer a fresh image.
 pub fn open(buffer: &mut [u8]) -> Answer {
     // SAFETY: the pointer and the length are a slice's, which is borrowed alone.

@@ -1,34 +1,22 @@
 //! Where the fields of a record are.
 
+use std::iter::successors;
 use std::ops::Range;
+
+use crate::calls;
 
 /// A record's header: its kind and its body's length. A field's: its tag and its length.
 const HEADER: usize = 3;
 
-/// Where the value of the first field of a tag is, in the record at the start of the
-/// bytes. The library is to answer this by an entry point of its own; what else reads
-/// fields here, goes on from there.
-pub(crate) fn place(record: &[u8], tag: u8) -> Option<Range<usize>> {
-    let body = split(record)?.1;
-    let (mut at, mut rest) = (HEADER, body);
-    while let Some((found, value)) = split(rest) {
-        let value_at = at + HEADER;
-        at = value_at + value.len();
-        if found == tag {
-            return Some(value_at..at);
-        }
-        rest = body.get(at - HEADER..)?;
-    }
-    None
-}
-
-/// The first byte, and so many bytes behind the header as it says.
-fn split(bytes: &[u8]) -> Option<(u8, &[u8])> {
-    let &[first, high, low, ref rest @ ..] = bytes else {
+/// Where the value of the first field of a tag from the place `at` on is.
+fn place(bytes: &[u8], at: usize, tag: u8) -> Option<Range<usize>> {
+    let mut place = [0; 2];
+    if calls::field(bytes, at, tag, &mut place) == 0 {
         return None;
-    };
-    let length = usize::from(u16::from_be_bytes([high, low]));
-    Some((first, rest.get(..length)?))
+    }
+    let [start, length] = place.map(|number| usize::try_from(number).ok());
+    let start = start?;
+    Some(start..start.checked_add(length?)?)
 }
 
 /// What has fields: a record, or a run of fields inside one.
@@ -39,31 +27,16 @@ pub(crate) enum Source<'a> {
 }
 
 impl<'a> Source<'a> {
-    /// The values of a tag, which stand side by side.
+    /// The values of a tag.
     pub(crate) fn values(self, tag: u8) -> impl Iterator<Item = &'a [u8]> {
-        let run = match self {
-            Source::Record(record) => place(record, tag)
-                .and_then(|place| record.get(place.start - HEADER..))
-                .unwrap_or_default(),
-            Source::Run(run) => run,
+        let (bytes, first) = match self {
+            Source::Record(record) => (record, HEADER),
+            Source::Run(run) => (run, 0),
         };
-        Run(run)
-            .skip_while(move |(found, _)| *found != tag)
-            .take_while(move |(found, _)| *found == tag)
-            .map(|(_, value)| value)
-    }
-}
-
-/// A run of fields: of each its tag and its value.
-struct Run<'a>(&'a [u8]);
-
-impl<'a> Iterator for Run<'a> {
-    type Item = (u8, &'a [u8]);
-
-    fn next(&mut self) -> Option<Self::Item> {
-        let (tag, value) = split(self.0)?;
-        self.0 = self.0.get(HEADER + value.len()..)?;
-        Some((tag, value))
+        successors(place(bytes, first, tag), move |before| {
+            place(bytes, before.end, tag)
+        })
+        .filter_map(|place| bytes.get(place))
     }
 }
 
@@ -111,22 +84,39 @@ mod tests {
 
     #[test]
     fn a_field_is_found_by_its_tag() {
-        assert_eq!(place(&LEVEL, 1), Some(6..7));
-        assert_eq!(place(&LEVEL, 2), Some(10..12));
-        assert_eq!(place(&LEVEL, 3), None);
+        assert_eq!(place(&LEVEL, HEADER, 1), Some(6..7));
+        assert_eq!(place(&LEVEL, HEADER, 2), Some(10..12));
+        assert_eq!(place(&LEVEL, HEADER, 3), None);
+        assert_eq!(place(&LEVEL, 7, 1), None);
     }
 
     #[test]
-    fn bytes_behind_the_record_are_not_looked_at() {
-        let longer = [&LEVEL[..], &[3, 0, 0]].concat();
-        assert_eq!(place(&longer, 3), None);
+    fn a_field_that_repeats_is_found_again() {
+        let run = [1, 0, 0, 1, 0, 2, 5, 6, 2, 0, 1, 7];
+        let values: Vec<_> = Source::Run(&run).values(1).collect();
+        assert_eq!(values, [&[][..], &[5, 6]]);
+        assert_eq!(Source::Run(&run).values(2).collect::<Vec<_>>(), [[7]]);
+        assert_eq!(Source::Run(&run).values(3).count(), 0);
     }
 
     #[test]
-    fn bytes_that_are_no_record_have_no_fields() {
+    fn a_field_that_is_torn_is_none() {
         for end in 0..LEVEL.len() {
-            assert_eq!(place(&LEVEL[..end], 1), None);
+            assert_eq!(place(&LEVEL[..end], HEADER, 2), None);
         }
-        assert_eq!(place(&[11, 0, 3, 1, 0, 9], 1), None);
+        for at in LEVEL.len()..LEVEL.len() + 3 {
+            assert_eq!(place(&LEVEL, at, 1), None);
+        }
+        assert_eq!(place(&LEVEL, usize::MAX, 1), None);
+    }
+
+    #[test]
+    fn a_list_with_fewer_elements_gets_those_that_it_has() {
+        assert_eq!(calls::field(&LEVEL, HEADER, 2, &mut []), 1);
+        let mut one = [9];
+        assert_eq!(calls::field(&LEVEL, HEADER, 2, &mut one), 1);
+        assert_eq!(one, [10]);
+        assert_eq!(calls::field(&LEVEL, HEADER, 3, &mut one), 0);
+        assert_eq!(one, [10]);
     }
 }

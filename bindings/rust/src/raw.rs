@@ -16,6 +16,15 @@ unsafe extern "C" {
         out_len: usize,
     ) -> u64;
 
+    pub(crate) fn jeghatuf_field(
+        bytes: *const u8,
+        bytes_len: usize,
+        at: usize,
+        tag: u8,
+        place: *mut u64,
+        place_len: usize,
+    ) -> u64;
+
     pub(crate) fn jeghatuf_open(buffer: *mut u8, buffer_len: usize) -> u64;
 
     pub(crate) fn jeghatuf_is_image(buffer: *const u8, buffer_len: usize) -> u64;

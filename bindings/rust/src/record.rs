@@ -3,7 +3,7 @@
 use std::fmt;
 
 use crate::calls;
-use crate::field::{Lists, place};
+use crate::field::{Lists, Source};
 use crate::kind::Kind;
 use crate::refusal::{Refusal, Stopped};
 use crate::shapes::Fields;
@@ -86,7 +86,7 @@ impl Record {
 
     /// The bytes of the field of a tag, of the first one where the field repeats.
     pub fn field(&self, tag: u8) -> Option<&[u8]> {
-        self.bytes.get(place(&self.bytes, tag)?)
+        Source::Record(&self.bytes).values(tag).next()
     }
 }
 

@@ -12,7 +12,7 @@ pub const STACK_COMPARE: usize = 576 * 1024;
 /// [`Image::restore`](crate::Image::restore); 316 KB served.
 pub const STACK_APPLY: usize = 384 * 1024;
 
-/// That of [`Record::read`](crate::Record::read), of a record that is built, and of
+/// That of [`Record::read`](crate::Record::read), of a record that is built or asked, and of
 /// [`Image::open`](crate::Image::open); 16 KB served.
 pub const STACK_RECORD: usize = 16 * 1024;
 

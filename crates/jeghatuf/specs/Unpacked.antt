@@ -1,6 +1,6 @@
 -- What an entry point returns can be taken apart again: its upper half is the definition's number, and its lower half the value that came with
--- it, or how many values did. One line for each entry point but `jeghatuf_is_image`, whose answer is 1 or 0. Where a line asks that the image is
--- bytes, a slice of `u8` is; it need be no image.
+-- it, or how many values did. One line for each entry point but `jeghatuf_is_image` and `jeghatuf_field`, whose answers are 1 or 0. Where a line
+-- asks that the image is bytes, a slice of `u8` is; it need be no image.
 use mathlib.Core.List.{List}
 use mathlib.Core.Option.{Option, none, some}
 use Prim.Native.Nat.{ℕ}

@@ -15,7 +15,7 @@ ghost use Rattle.model.specs.Lookup.{topicByName, topicById, partitionOf, broke
 ghost use Rattle.model.specs.Validate.{validateOf};
 ghost use Rattle.packing.specs.Packed.{packed, counted, widened};
 
-// Opens a fresh image in a buffer of 128 to 65,536 bytes.
+// Opens a fresh image in a buffer of 144 to 65,536 bytes.
 #[no_mangle]
 pub extern "C" fn jeghatuf_open(buffer: &mut [u8]) -> u64
     ensures { λ r. ⌜ r ≡ packed (openOf (now (buffer .entry)) .reply) ⌝ }

@@ -39,6 +39,10 @@ fn a_call_needs_no_more_stack_than_is_named() {
         on(STACK_RECORD, || {
             assert_eq!(calls::read(record), Ok(record.len()))
         });
+        on(STACK_RECORD, || {
+            let found = (0..=u8::MAX).filter(|tag| calls::field(record, 3, *tag, &mut []) == 1);
+            assert!(found.count() > 0);
+        });
         on(STACK_OTHER, || {
             valid += usize::from(calls::validate(&image, record).is_ok())
         });
