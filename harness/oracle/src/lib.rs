@@ -2,7 +2,8 @@
 //! holds, in 01's order, and its bytes; whether bytes are an image; verdicts as
 //! 01's numbers; the listing for a downgrade; the freezes of a list of names;
 //! where two recordings part; the numbers of short histories; generated
-//! histories; the stored histories of crates/test_replay; facts.
+//! histories; the least of an input that shows a difference; the stored histories of
+//! crates/test_replay; facts.
 
 pub mod cases;
 pub mod downgrade;
@@ -20,6 +21,7 @@ pub mod order;
 pub mod recordings;
 pub mod replay;
 pub mod short_history;
+pub mod shrink;
 pub mod snapshot;
 pub mod stored;
 pub mod verdict;
