@@ -35,6 +35,7 @@ pub use short::{compare_drawn_numbers, compare_named_numbers, compare_short, com
 pub use views::{compare_views, listed};
 
 use course::Course;
+use oracle::shrink::least_records;
 use wire::Random;
 
 use crate::images::{Compared, Tally};
@@ -56,7 +57,7 @@ impl History {
     /// that show one.
     fn compare(&self, tally: &mut Tally) -> Result<Course, String> {
         self.run(tally)
-            .map_err(|difference| self.smallest(difference))
+            .map_err(|difference| self.least(difference, |_| Ok(())))
     }
 
     fn run(&self, tally: &mut Tally) -> Result<Course, String> {
@@ -68,51 +69,56 @@ impl History {
     }
 
     /// Takes all steps, and compares behind each. A difference comes with the
-    /// inputs up to there.
-    fn along(&self, mut behind: impl FnMut(&Course) -> Compared) -> Result<Course, String> {
+    /// fewest of the inputs up to there that show one.
+    fn along(
+        &self,
+        tally: &mut Tally,
+        random: &mut Random,
+        behind: impl Fn(&mut Tally, &mut Random, &Course) -> Compared,
+    ) -> Result<Course, String> {
         let mut course = Course::open(&mut Tally::default(), self.capacity)?;
         for (place, input) in self.inputs.iter().enumerate() {
+            let before = random.clone();
             course
                 .take(&mut Tally::default(), input, self.validated)
-                .and_then(|_| behind(&course))
-                .map_err(|difference| self.tell(&difference, place + 1))?;
+                .and_then(|_| behind(tally, random, &course))
+                .map_err(|difference| {
+                    let so_far = self.with(self.inputs[..=place].to_vec());
+                    so_far.least(difference, |course| {
+                        behind(&mut Tally::default(), &mut before.clone(), course)
+                    })
+                })?;
         }
         Ok(course)
     }
 
-    /// A difference with the capacity and the first so many of the inputs.
-    fn tell(&self, difference: &str, count: usize) -> String {
-        let inputs: String = self.inputs[..count]
-            .iter()
-            .map(|input| told(input))
-            .collect();
-        let capacity = self.capacity;
-        format!("{difference}\nat capacity {capacity}, after these:\n{inputs}")
+    /// A difference in a step or in what is compared at the end, with the fewest
+    /// and simplest of the inputs that show one.
+    fn least(&self, difference: String, mut end: impl FnMut(&Course) -> Compared) -> String {
+        let compare = |inputs: &[Vec<u8>]| {
+            let history = self.with(inputs.to_vec());
+            end(&history.run(&mut Tally::default())?)
+        };
+        let (inputs, difference) = least_records(difference, &self.inputs, compare);
+        self.with(inputs).tell(&difference)
     }
 
-    /// Leaves inputs out as long as there is a difference.
-    fn smallest(&self, difference: String) -> String {
-        let (mut inputs, mut difference) = (self.inputs.clone(), difference);
-        let mut place = 0;
-        while place < inputs.len() {
-            let mut fewer = inputs.clone();
-            fewer.remove(place);
-            match self.with(fewer.clone()).run(&mut Tally::default()) {
-                Ok(_) => place += 1,
-                Err(other) => (inputs, difference) = (fewer, other),
-            }
-        }
-        let inputs: Vec<String> = inputs.iter().map(|input| told(input)).collect();
+    /// A difference, and what it comes after.
+    fn tell(&self, difference: &str) -> String {
         let (capacity, validated) = (self.capacity, self.validated);
+        let inputs = all_told(&self.inputs);
         format!(
-            "{difference}\nat capacity {capacity}, validated: {validated}, after these:\n{}",
-            inputs.concat()
+            "{difference}\nat capacity {capacity}, validated: {validated}, after these:\n{inputs}"
         )
     }
 
     fn with(&self, inputs: Vec<Vec<u8>>) -> Self {
         Self { inputs, ..*self }
     }
+}
+
+pub(crate) fn all_told(inputs: &[Vec<u8>]) -> String {
+    inputs.iter().map(|input| told(input)).collect()
 }
 
 /// An input in hex, and its record or why it has none.

@@ -8,6 +8,7 @@ mod named;
 
 pub use named::{compare_bytes, compare_named};
 
+use oracle::shrink::least_bytes;
 use wire::Random;
 
 use crate::images::{Compared, Tally};
@@ -27,11 +28,28 @@ impl Input {
             Self::Ours(bytes) => compare_write(tally, bytes),
         }
     }
+
+    /// The difference of the fewest bytes that show one.
+    fn least(&self, difference: String, before: &Random) -> String {
+        let (bytes, again): (_, fn(Vec<u8>) -> Self) = match self {
+            Self::Theirs(bytes) => (bytes, Self::Theirs),
+            Self::Ours(bytes) => (bytes, Self::Ours),
+        };
+        let compare = |bytes: &[u8]| {
+            again(bytes.to_vec()).compare(&mut Tally::default(), &mut before.clone())
+        };
+        least_bytes(difference, bytes, compare).1
+    }
 }
 
 /// Compares so many inputs of a seed.
 pub fn compare_drawn(tally: &mut Tally, count: u64, seed: u64) -> Compared {
     let mut random = Random::beside(seed);
     let mut inputs = Inputs::new(seed);
-    (0..count).try_for_each(|_| inputs.draw().compare(tally, &mut random))
+    (0..count).try_for_each(|_| {
+        let (input, before) = (inputs.draw(), random.clone());
+        input
+            .compare(tally, &mut random)
+            .map_err(|difference| input.least(difference, &before))
+    })
 }

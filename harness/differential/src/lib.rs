@@ -13,6 +13,7 @@ mod inputs;
 pub mod kafka;
 #[cfg(feature = "images")]
 mod lent;
+mod lists;
 mod offsets;
 mod program;
 mod replicas;
@@ -21,6 +22,7 @@ mod typical;
 
 pub use entry::*;
 pub use inputs::Inputs;
+pub use lists::least_lists;
 pub use offsets::log_offsets;
 pub use program::{Asked, Compared, Comparison, Help};
 pub use replicas::replica_lists;

@@ -83,7 +83,8 @@ impl Comparison<'_> {
             "{about}\n\n\
              As many {drawn} are drawn as the first argument says (default: {count}), from the\n\
              seed on that the second says (default: 1). Ends with 0 where all is equal, with 1\n\
-             at the first difference, which is printed, and with {WRONG_ARGUMENT} on a wrong argument."
+             at the first difference, which is printed with the least input found to show one,\n\
+             and with {WRONG_ARGUMENT} on a wrong argument."
         )
     }
 }

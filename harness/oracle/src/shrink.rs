@@ -4,15 +4,15 @@
 
 mod simpler;
 
-pub use simpler::simpler;
+pub use simpler::{shorter, simpler};
 
 use wire::read;
 
 use crate::held::is_held;
 
 /// The steps of a search among records, and among bytes: some seconds of either.
-const STEPS: usize = 20_000;
-const BYTES: usize = 4_000_000;
+pub const STEPS: usize = 20_000;
+pub const BYTES: usize = 4_000_000;
 
 /// Some items, and the difference that they show.
 pub type Least<T> = (Vec<T>, String);
@@ -134,7 +134,7 @@ pub fn least_records(
         STEPS,
         difference,
         inputs,
-        |input| held(simpler(input)),
+        |input| simpler_held(input),
         compare,
     )
 }
@@ -169,7 +169,9 @@ pub fn least_bytes(
     least(BYTES, difference, bytes, lower, compare)
 }
 
-fn held(mut inputs: Vec<Vec<u8>>) -> Vec<Vec<u8>> {
+/// What is simpler than an input, and is held against the reference.
+pub fn simpler_held(input: &[u8]) -> Vec<Vec<u8>> {
+    let mut inputs = simpler(input);
     inputs.retain(|input| is_held(input));
     inputs
 }

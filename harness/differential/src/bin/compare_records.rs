@@ -4,8 +4,9 @@
 
 use std::process::ExitCode;
 
-use differential::{Asked, Compared, Comparison, Inputs, log_offsets, replica_lists};
-use wire::Lists;
+use differential::{Asked, Compared, Comparison, Inputs, least_lists, log_offsets, replica_lists};
+use oracle::shrink::least_bytes;
+use wire::{Lists, hex};
 
 const RECORDS: Comparison = Comparison {
     name: "compare_records",
@@ -25,9 +26,15 @@ fn main() -> ExitCode {
         let (mut read, mut written) = ([0; 256], [0; 256]);
         for _ in 0..count {
             let input = inputs.draw();
-            compare_read(&mut read, &input)?;
+            compare_read(&mut read, &input).map_err(|difference| {
+                let compare = |input: &[u8]| compare_read(&mut [0; 256], input);
+                least_bytes(difference, &input, compare).1
+            })?;
             let (lists, out) = inputs.lists(&input);
-            compare_write(&mut written, &lists, out)?;
+            compare_write(&mut written, &lists, &out).map_err(|difference| {
+                let compare = |lists: &Lists, out: &[u8]| compare_write(&mut [0; 256], lists, out);
+                least_lists(difference, &lists, &out, compare)
+            })?;
         }
         let (read, written) = (told("Read", &read), told("Write", &written));
         let lists = compare_known(&replica_lists())?;
@@ -51,7 +58,7 @@ fn compare_known(records: &[(Vec<u8>, u8)]) -> Result<String, String> {
         compare_read(&mut read, record)?;
         let lists = Lists::of(record);
         for room in [record.len(), record.len() - 1, 0] {
-            compare_write(&mut written, &lists, vec![7; room])?;
+            compare_write(&mut written, &lists, &vec![7; room])?;
         }
     }
     Ok(told("Read", &read) + &told("Write", &written))
@@ -68,20 +75,22 @@ fn compare_read(counts: &mut Counts, input: &[u8]) -> Compared {
     match answer == expected {
         true => Ok(()),
         false => Err(format!(
-            "Read says {answer:?}, not {expected:?}, of {input:02x?}"
+            "Read says {answer:?}, not {expected:?}, of {}",
+            hex(input)
         )),
     }
 }
 
-fn compare_write(counts: &mut Counts, lists: &Lists, out: Vec<u8>) -> Compared {
-    let (mut ours, mut theirs) = (out.clone(), out);
+fn compare_write(counts: &mut Counts, lists: &Lists, out: &[u8]) -> Compared {
+    let (mut ours, mut theirs) = (out.to_vec(), out.to_vec());
     let answer = differential::write(lists, &mut ours);
     let expected = wire::write(lists, &mut theirs);
     count(counts, expected);
     match answer == expected && ours == theirs {
         true => Ok(()),
         false => Err(format!(
-            "Write says {answer:?}, not {expected:?}, or other bytes, of {lists:02x?}"
+            "Write says {answer:?}, not {expected:?}, or other bytes, into {} bytes of {lists:02x?}",
+            out.len()
         )),
     }
 }

@@ -1,6 +1,7 @@
 //! Snapshots from before the log offset: the old form in the new one, and back.
 //! The reference has no log offsets, so the harness says what is expected.
 
+use oracle::shrink::least_run;
 use oracle::snapshot::{start, starting};
 use oracle::verdict::{MISPLACED_OFFSET, OFFSET_TOO_LOW};
 use wire::{LOG_OFFSET, NO_RECORD, Random, TOO_SHORT, encoded_offset, hex, read, read_logged};
@@ -26,11 +27,20 @@ pub fn compare_conversions(tally: &mut Tally, seed: u64) -> Compared {
         validated: drawn.validated,
         inputs: drawn.inputs,
     };
-    let course = history.along(|course| compare_snapshot(tally, &mut random, course))?;
+    let course = history.along(tally, &mut random, compare_snapshot)?;
     let snapshot = course.expected_snapshot();
     to_restore(&mut random, &snapshot, &history.inputs)
         .iter()
-        .try_for_each(|run| compare_any(tally, &mut random, run))
+        .try_for_each(|run| compare_least(tally, &mut random, run))
+}
+
+/// A run, of which the fewest records that show a difference are told.
+fn compare_least(tally: &mut Tally, random: &mut Random, run: &[u8]) -> Compared {
+    let before = random.clone();
+    compare_any(tally, random, run).map_err(|difference| {
+        let compare = |run: &[u8]| compare_any(&mut Tally::default(), &mut before.clone(), run);
+        least_run(difference, run, compare).1
+    })
 }
 
 /// Runs of known standing: none, kind 26 alone, torn, twice, late, below -1 and

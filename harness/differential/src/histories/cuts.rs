@@ -1,6 +1,7 @@
 //! Histories with cuts at any places, beside the same ones uncut and beside the
 //! reference; and Restore of bytes that no snapshot wrote.
 
+use oracle::shrink::{self, STEPS, least_run, simpler_held};
 use wire::{Random, hex};
 
 use super::course::Course;
@@ -24,19 +25,73 @@ pub fn compare_cuts(tally: &mut Tally, seed: u64) -> Compared {
     let capacity = capacities[random.below(capacities.len())];
     let mut pair = Pair::open(tally, capacity, drawn.validated)?;
     let often = OFTEN[random.below(OFTEN.len())];
-    for (place, input) in drawn.inputs.iter().enumerate() {
-        pair.take(tally, input)
-            .and_then(|()| pair.go_on(tally, &mut random, often))
-            .map_err(|difference| tell(&difference, capacity, often, &drawn.inputs[..=place]))?;
+    let mut taken = Vec::new();
+    for input in &drawn.inputs {
+        for step in [Step::Give(input.clone()), Step::Cut, Step::Ask] {
+            if step.is_drawn(&mut random, often) {
+                taken.push((step.clone(), random.clone()));
+                pair.take(tally, &mut random, &step)
+                    .map_err(|difference| least(difference, capacity, drawn.validated, &taken))?;
+            }
+        }
     }
     compare_bytes(tally, &mut random, &pair.cut, &drawn.inputs)
-        .map_err(|difference| tell(&difference, capacity, often, &drawn.inputs))
 }
 
-fn tell(difference: &str, capacity: usize, often: usize, inputs: &[Vec<u8>]) -> String {
-    let inputs: Vec<String> = inputs.iter().map(|input| told(input)).collect();
-    let inputs = inputs.concat();
-    format!("{difference}\nat capacity {capacity}, a cut in {often}, after these:\n{inputs}")
+/// A step of a history with cuts.
+#[derive(Clone)]
+enum Step {
+    Give(Vec<u8>),
+    Cut,
+    /// All questions to both images.
+    Ask,
+}
+
+impl Step {
+    /// Each input is given; now and then a cut follows, and now and then all
+    /// questions.
+    fn is_drawn(&self, random: &mut Random, often: usize) -> bool {
+        match self {
+            Self::Give(_) => true,
+            Self::Cut => random.below(often) == 0,
+            Self::Ask => random.below(ASKED) == 0,
+        }
+    }
+
+    fn simpler(&self) -> Vec<Self> {
+        match self {
+            Self::Give(input) => simpler_held(input).into_iter().map(Self::Give).collect(),
+            Self::Cut | Self::Ask => Vec::new(),
+        }
+    }
+
+    fn told(&self) -> String {
+        match self {
+            Self::Give(input) => told(input),
+            Self::Cut => "  a cut\n".to_owned(),
+            Self::Ask => "  all questions to the cut and the uncut image\n".to_owned(),
+        }
+    }
+}
+
+/// A step, and what was drawn from where it was taken.
+type Taken = (Step, Random);
+
+/// The difference with the fewest steps that show one.
+fn least(difference: String, capacity: usize, validated: bool, taken: &[Taken]) -> String {
+    let compare = |taken: &[Taken]| {
+        let mut pair = Pair::open(&mut Tally::default(), capacity, validated)?;
+        taken.iter().try_for_each(|(step, random)| {
+            pair.take(&mut Tally::default(), &mut random.clone(), step)
+        })
+    };
+    let simpler = |(step, random): &Taken| {
+        let others = step.simpler().into_iter();
+        others.map(|other| (other, random.clone())).collect()
+    };
+    let (taken, difference) = shrink::least(STEPS, difference, taken, simpler, compare);
+    let steps: String = taken.iter().map(|(step, _)| step.told()).collect();
+    format!("{difference}\nat capacity {capacity}, validated: {validated}, after these:\n{steps}")
 }
 
 /// The cut history's image and the uncut one's, each beside its own reference.
@@ -59,9 +114,18 @@ impl Pair {
         })
     }
 
-    /// The same step for both. The verdicts and the log offsets are equal as long
+    /// The uncut history goes on where the other one is cut.
+    fn take(&mut self, tally: &mut Tally, random: &mut Random, step: &Step) -> Compared {
+        match step {
+            Step::Give(input) => self.give(tally, input),
+            Step::Cut => self.cut.cut(tally, random),
+            Step::Ask => self.ask(tally),
+        }
+    }
+
+    /// The same input to both. The verdicts and the log offsets are equal as long
     /// as the premises hold of the uncut history.
-    fn take(&mut self, tally: &mut Tally, input: &[u8]) -> Compared {
+    fn give(&mut self, tally: &mut Tally, input: &[u8]) -> Compared {
         self.premises.see_image(&self.uncut.reference);
         let uncut = self
             .uncut
@@ -78,14 +142,7 @@ impl Pair {
         }
     }
 
-    /// Now and then a cut, and now and then all questions.
-    fn go_on(&mut self, tally: &mut Tally, random: &mut Random, often: usize) -> Compared {
-        if random.below(often) == 0 {
-            self.cut.cut(tally, random)?;
-        }
-        if random.below(ASKED) != 0 {
-            return Ok(());
-        }
+    fn ask(&mut self, tally: &mut Tally) -> Compared {
         self.premises.see_image(&self.uncut.reference);
         match self.premises.hold() {
             true => alike(tally, &self.uncut, &self.cut),
@@ -102,10 +159,18 @@ fn compare_bytes(
     inputs: &[Vec<u8>],
 ) -> Compared {
     let snapshot = course.expected_snapshot();
-    compare_no_capacity(tally, random, &snapshot)?;
-    for input in to_restore(random, &snapshot, inputs) {
-        compare_restore(tally, random, course.buffer.len(), &input)
-            .map_err(|difference| format!("{difference}\nof these bytes: {}", hex(&input)))?;
+    compare_no_capacity(tally, random, &snapshot)
+        .map_err(|difference| format!("{difference}\nof these bytes: {}", hex(&snapshot)))?;
+    let capacity = course.buffer.len();
+    for run in to_restore(random, &snapshot, inputs) {
+        let before = random.clone();
+        compare_restore(tally, random, capacity, &run).map_err(|difference| {
+            let (run, difference) = least_run(difference, &run, |run| {
+                compare_restore(&mut Tally::default(), &mut before.clone(), capacity, run)
+            });
+            let run = hex(&run);
+            format!("{difference}\nat capacity {capacity}, of these bytes: {run}")
+        })?;
     }
     Ok(())
 }

@@ -13,6 +13,7 @@ use oracle::facts::build::{freeze, thaw};
 use oracle::freeze_list::list;
 use oracle::generate::Knobs;
 use oracle::image::{FIXED_ROOM, MOST_CAPACITY};
+use oracle::shrink::least;
 use wire::choices::PATTERN_TYPES;
 use wire::{Random, encoded};
 
@@ -22,7 +23,7 @@ use super::drawn::Drawn;
 use super::no_image::near;
 use crate::images::{Compared, Tally, knobs};
 use asked::{Asked, compare_no_image};
-use lists::{damaged, drawn, ending, near_scopes, word};
+use lists::{damaged, drawn, ending, near_scopes, parts, simpler, word};
 
 /// The weight of freezes among the kinds, and their place there.
 const FREEZES: u64 = 60;
@@ -38,6 +39,9 @@ const HELD: usize = 8;
 /// How many lists end in a name near a scope, and how many are drawn.
 const ENDINGS: usize = 30;
 const DRAWS: usize = 12;
+/// The steps of a search for the least list: one is made within that for the
+/// least history.
+const STEPS: usize = 2_000;
 
 /// Compares lists behind some steps of the history of a seed, and at its end.
 pub fn compare_freezes(tally: &mut Tally, seed: u64) -> Compared {
@@ -53,11 +57,18 @@ pub fn compare_freezes(tally: &mut Tally, seed: u64) -> Compared {
         validated: drawn.validated,
         inputs: with_words(&mut random, drawn.inputs, words),
     };
-    let course = history.along(|course| match random.below(HELD) {
-        0 => compare_lists(tally, &mut random, course),
-        _ => Ok(()),
-    })?;
-    compare_lists(tally, &mut random, &course)
+    let now_and_then =
+        |tally: &mut Tally, random: &mut Random, course: &Course| match random.below(HELD) {
+            0 => compare_lists(tally, random, course),
+            _ => Ok(()),
+        };
+    let course = history.along(tally, &mut random, now_and_then)?;
+    let before = random.clone();
+    compare_lists(tally, &mut random, &course).map_err(|difference| {
+        history.least(difference, |course| {
+            compare_lists(&mut Tally::default(), &mut before.clone(), course)
+        })
+    })
 }
 
 /// A history's knobs, with freezes drawn often.
@@ -88,17 +99,36 @@ fn compare_lists(tally: &mut Tally, random: &mut Random, course: &Course) -> Com
     let names = near_scopes(image);
     for _ in 0..ENDINGS {
         let names = ending(random, &names);
-        asked.compare(tally, random, &list(&names))?;
+        let list = list(&names);
+        compare_least(random, &list, |random, list| {
+            asked.compare(tally, random, list)
+        })?;
     }
     for _ in 0..DRAWS {
         let names = drawn(random, &names);
         let lists = [list(&names), damaged(random, &names)];
         for list in &lists {
-            asked.compare(tally, random, list)?;
+            compare_least(random, list, |random, list| {
+                asked.compare(tally, random, list)
+            })?;
         }
         if let Some(buffer) = near(random, &course.buffer) {
             compare_no_image(tally, random, &buffer, &lists)?;
         }
     }
     Ok(())
+}
+
+/// A list, of which the fewest and shortest names that show a difference are told.
+fn compare_least(
+    random: &mut Random,
+    list: &[u8],
+    mut compare: impl FnMut(&mut Random, &[u8]) -> Compared,
+) -> Compared {
+    let before = random.clone();
+    compare(random, list).map_err(|difference| {
+        let compare = |parts: &[Vec<u8>]| compare(&mut before.clone(), &parts.concat());
+        let simpler = |part: &Vec<u8>| simpler(part);
+        least(STEPS, difference, &parts(list), simpler, compare).1
+    })
 }

@@ -6,6 +6,7 @@ use std::collections::BTreeSet;
 
 use krabka_metadata::{MetadataImage, MetadataRecord};
 use oracle::image::MOST_CAPACITY;
+use oracle::shrink::least_run;
 use oracle::snapshot::{next, snapshot, start, starting};
 use oracle::verdict::offset_leaves_i64;
 use uuid::Uuid;
@@ -42,7 +43,12 @@ pub fn compare_logs(tally: &mut Tally, seed: u64) -> Compared {
     let snapshot = snapshot(&reference.observed());
     let mut runs = to_restore(&mut random, &snapshot, &drawn.inputs);
     runs.extend([starting(OFFSET, &whole), whole]);
-    runs.iter().try_for_each(|run| compare_run(tally, run))
+    runs.iter().try_for_each(|run| {
+        compare_run(tally, run).map_err(|difference| {
+            let compare = |run: &[u8]| compare_run(&mut Tally::default(), run);
+            least_run(difference, run, compare).1
+        })
+    })
 }
 
 /// Compares on every run of a few freezes and thaws, and on runs with known
@@ -137,7 +143,8 @@ fn compare_run(tally: &mut Tally, run: &[u8]) -> Compared {
             .map_err(|difference| format!("{difference}\nof the run {}", hex(run)))?;
     }
     match image {
-        Some(image) => compare_restored(tally, run, image),
+        Some(image) => compare_restored(tally, run, image)
+            .map_err(|difference| format!("{difference}\nof the run {}", hex(run))),
         None => Ok(()),
     }
 }

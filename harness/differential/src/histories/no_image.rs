@@ -4,6 +4,7 @@
 use oracle::cases::cases;
 use oracle::exact::is_image;
 use oracle::facts::build::{delete_topic, feature_level, topic};
+use oracle::shrink::least_bytes;
 use oracle::verdict::NO_IMAGE;
 use wire::{Random, encoded, encoded_offset};
 
@@ -72,10 +73,19 @@ fn place(random: &mut Random, image: &[u8]) -> usize {
 }
 
 fn compare(tally: &mut Tally, bytes: &[u8], input: &[u8]) -> Compared {
-    compare_numbers(tally, bytes, input).map_err(|difference| {
-        let (bytes, input) = (shown(bytes), told(input));
-        format!("{difference}\nto {bytes}\nthat is no image, of this:\n{input}")
-    })
+    compare_numbers(tally, bytes, input).map_err(|difference| least(difference, bytes, input))
+}
+
+/// The difference of less input to a lesser buffer.
+fn least(difference: String, bytes: &[u8], input: &[u8]) -> String {
+    let compare = |bytes: &[u8], input: &[u8]| match is_image(bytes) {
+        true => Ok(()),
+        false => compare_numbers(&mut Tally::default(), bytes, input),
+    };
+    let (input, difference) = least_bytes(difference, input, |input| compare(bytes, input));
+    let (bytes, difference) = least_bytes(difference, bytes, |bytes| compare(bytes, &input));
+    let (bytes, input) = (shown(&bytes), told(&input));
+    format!("{difference}\nto {bytes}\nthat is no image, of this:\n{input}")
 }
 
 fn compare_numbers(tally: &mut Tally, bytes: &[u8], input: &[u8]) -> Compared {

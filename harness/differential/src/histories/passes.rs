@@ -51,7 +51,12 @@ pub fn compare_passes(tally: &mut Tally, seed: u64) -> Compared {
         inputs: drawn.inputs,
     };
     let course = history.compare(&mut Tally::default())?;
-    compare_levels(tally, &course).map(|_| ())
+    match compare_levels(tally, &course) {
+        Ok(_) => Ok(()),
+        Err(difference) => Err(history.least(difference, |course| {
+            compare_levels(&mut Tally::default(), course).map(|_| ())
+        })),
+    }
 }
 
 /// The passes to all levels from where the course is. Gives how the ones at the

@@ -7,12 +7,13 @@ use krabka_metadata::{ClientQuotaRecord, EntityKey, MetadataRecord, QuotaEntity}
 use oracle::generate::{Generator, Knobs};
 use oracle::image::{MOST_CAPACITY, image, layout, weight};
 use oracle::order::entity_key;
+use oracle::shrink::{self, STEPS};
 use oracle::snapshot::{start, starting};
 use oracle::verdict::NO_IMAGE;
 use wire::{NO_RECORD, Random, decode, encoded, encoded_all, hex};
 
-use super::expect;
 use super::reference::Reference;
+use super::{expect, told};
 use crate::images::{Compared, Tally};
 use crate::{apply, is_image, open, restore, snapshot, validate};
 
@@ -32,10 +33,52 @@ pub fn compare_quotas(tally: &mut Tally, seed: u64) -> Compared {
     let mut random = Random::beside(seed);
     let count = random.below(ALL_ORDERS + 1);
     let list = drawn(&mut random, count);
-    compare_spellings(tally, &mut random, &list)?;
+    let before = random.clone();
+    compare_spellings(tally, &mut random, &list)
+        .map_err(|difference| least_list(difference, &before, &list))?;
     let run = drawn_run(&mut random, seed);
-    compare_run(tally, &run)?;
-    compare_old_snapshot(tally, &run)
+    for compare in [compare_run, compare_old_snapshot] {
+        compare(tally, &run).map_err(|difference| least_run(difference, &run, compare))?;
+    }
+    Ok(())
+}
+
+/// The difference of the fewest entities that show one.
+fn least_list(difference: String, before: &Random, list: &List) -> String {
+    let unmoved = |_: &QuotaEntity| Vec::new();
+    let (list, difference) = shrink::least(STEPS, difference, list, unmoved, |list| {
+        compare_spellings(&mut Tally::default(), &mut before.clone(), &list.to_vec())
+    });
+    let given = told(&encoded(&quota(&list, "rate", Some(1.0))));
+    format!("{difference}\nof the orders of this:\n{given}")
+}
+
+/// The difference of the fewest records that show one, of those runs that could
+/// be drawn.
+fn least_run(
+    difference: String,
+    run: &[MetadataRecord],
+    compare: fn(&mut Tally, &[MetadataRecord]) -> Compared,
+) -> String {
+    let simpler = |record: &MetadataRecord| {
+        let others = shrink::simpler(&encoded(record)).into_iter();
+        let read = others.filter_map(|other| decode(&other).ok());
+        read.map(|(record, _)| record).collect()
+    };
+    let compare = |run: &[MetadataRecord]| match is_taken(run) {
+        true => compare(&mut Tally::default(), run),
+        false => Ok(()),
+    };
+    shrink::least(STEPS, difference, run, simpler, compare).1
+}
+
+/// Whether all records of a run are applied, and have room.
+fn is_taken(run: &[MetadataRecord]) -> bool {
+    let fresh = Some(Reference::new());
+    let after = |reference: Option<Reference>, record: &MetadataRecord| {
+        next(&reference?, &sorted(record)).filter(fits)
+    };
+    run.iter().fold(fresh, after).is_some()
 }
 
 /// The same entity eight times; an absent name, an empty one and others of one

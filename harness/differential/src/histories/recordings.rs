@@ -2,17 +2,21 @@
 
 mod named;
 mod pairs;
+mod shared;
 
 pub use named::compare_named_recordings;
 pub use pairs::without_effect;
 
+use oracle::held::is_held;
 use oracle::recordings::{Course, Parting, Standing, parting};
+use oracle::shrink::{self, STEPS};
 use wire::{Random, hex};
 
 use super::drawn::capacities;
 use crate::compare;
 use crate::images::{Compared, Tally, shown};
 use pairs::{Pair, drawn_records, pairs};
+use shared::{Shared, run_of, shared};
 
 /// What both buffers hold before a call: nothing of it counts.
 const DIRT: [u8; 2] = [0x5a, 0xa5];
@@ -27,9 +31,28 @@ pub fn compare_recordings(tally: &mut Tally, seed: u64) -> Compared {
     let reached = Course::of(&records.concat()).heaviest();
     let capacities = capacities(&mut random, reached);
     for pair in pairs(&mut random, &records) {
-        compare_pair(tally, &capacities, &pair)?;
+        compare_pair(tally, &capacities, &pair)
+            .map_err(|difference| least(difference, &capacities, &pair))?;
     }
     Ok(())
+}
+
+/// The difference of the fewest records of both runs that show one. That they
+/// agree is known of the drawn ones alone.
+fn least(difference: String, capacities: &[usize], pair: &Pair) -> String {
+    let compare = |shared: &[Shared]| {
+        let other = Pair {
+            what: pair.what,
+            one: run_of(shared, 0),
+            other: run_of(shared, 1),
+            agrees: false,
+        };
+        match is_held(&other.one) && is_held(&other.other) {
+            true => compare_pair(&mut Tally::default(), capacities, &other),
+            false => Ok(()),
+        }
+    };
+    shrink::least(STEPS, difference, &shared(pair), Shared::simpler, compare).1
 }
 
 /// Compares the two both ways round at each capacity.

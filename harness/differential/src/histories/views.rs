@@ -7,14 +7,16 @@ mod lists;
 use std::collections::BTreeSet;
 
 use krabka_metadata::MetadataImage;
+use oracle::shrink::{self, STEPS, least_records};
 use oracle::verdict::NO_IMAGE;
 use wire::{Random, TOO_SHORT, decode, hex};
 
 use self::expected::{Question, counted, found, named_by};
 pub use self::lists::listed;
-use self::lists::{drawn_prefixes, refused_lists};
+use self::lists::{drawn_prefixes, refused_lists, simpler};
 use super::course::Course;
 use super::drawn::{Drawn, capacities};
+use super::{History, all_told};
 use crate::images::{Compared, Tally, frozen_names};
 
 /// How many lists of prefixes are drawn for a history.
@@ -31,29 +33,122 @@ pub fn compare_views(tally: &mut Tally, seed: u64) -> Compared {
     let drawn = Drawn::of(&mut random, seed);
     let strange = Drawn::of(&mut random, !seed);
     let places = capacities(&mut random, drawn.reached);
-    let course = course(&drawn.inputs, places[0], drawn.validated)?;
+    let reached = drawn.reached;
+    let history = History {
+        capacity: places[0],
+        validated: drawn.validated,
+        inputs: drawn.inputs,
+    };
+    let course = history.compare(&mut Tally::default())?;
     for _ in 0..LISTS {
-        let prefixes = drawn_prefixes(&mut random, &names(&course.reference.image));
-        let told = |difference| format!("{difference}\nfor the prefixes {prefixes:?}, seed {seed}");
-        let others = [
-            fewer(&mut random, &drawn, &prefixes).map_err(told)?,
-            changed(&mut random, &drawn, &strange, &prefixes).map_err(told)?,
-        ];
-        compare_list(tally, &mut random, &course, &others, &prefixes).map_err(told)?;
+        let viewed = Viewed {
+            history: &history,
+            reached,
+            strange: &strange.inputs,
+            prefixes: &drawn_prefixes(&mut random, &names(&course.reference.image)),
+        };
+        let before = random.clone();
+        viewed
+            .compare(tally, &mut random, &course)
+            .map_err(|difference| viewed.least(difference, &before))?;
     }
     for (list, number) in refused_lists(&mut random) {
-        compare_refused(tally, &course, &list, number)?;
+        compare_refused(tally, &course, &list, number).map_err(|difference| {
+            history.least(difference, |course| {
+                compare_refused(&mut Tally::default(), course, &list, number)
+            })
+        })?;
     }
     Ok(())
 }
 
-/// The image of some inputs at a capacity. What has no room is refused.
-fn course(inputs: &[Vec<u8>], capacity: usize, validated: bool) -> Result<Course, String> {
-    let mut course = Course::open(&mut Tally::default(), capacity)?;
-    for input in inputs {
-        course.take(&mut Tally::default(), input, validated)?;
+/// A history as a viewer sees it.
+#[derive(Clone, Copy)]
+struct Viewed<'a> {
+    history: &'a History,
+    /// The greatest weight on its way.
+    reached: usize,
+    /// Those of another history.
+    strange: &'a [Vec<u8>],
+    prefixes: &'a [String],
+}
+
+impl Viewed<'_> {
+    /// On the history's image, and beside it on those of others.
+    fn compare(&self, tally: &mut Tally, random: &mut Random, course: &Course) -> Compared {
+        let others = [self.fewer(random)?, self.changed(random)?];
+        compare_list(tally, random, course, &others, self.prefixes)
     }
-    Ok(course)
+
+    /// The difference with the fewest prefixes and inputs that show one.
+    fn least(&self, difference: String, before: &Random) -> String {
+        let compare = |viewed: Viewed| {
+            let course = viewed.history.run(&mut Tally::default())?;
+            viewed.compare(&mut Tally::default(), &mut before.clone(), &course)
+        };
+        let inputs = &self.history.inputs;
+        let (inputs, difference) = least_records(difference, inputs, |inputs| {
+            let history = &self.history.with(inputs.to_vec());
+            compare(Viewed { history, ..*self })
+        });
+        let viewed = Viewed {
+            history: &self.history.with(inputs),
+            ..*self
+        };
+        let (strange, difference) = least_records(difference, self.strange, |strange| {
+            compare(Viewed { strange, ..viewed })
+        });
+        let viewed = Viewed {
+            strange: &strange,
+            ..viewed
+        };
+        let shorter = |prefix: &String| simpler(prefix);
+        let (prefixes, difference) =
+            shrink::least(STEPS, difference, self.prefixes, shorter, |prefixes| {
+                compare(Viewed { prefixes, ..viewed })
+            });
+        let (difference, strange) = (viewed.history.tell(&difference), all_told(&strange));
+        format!("{difference}for the prefixes {prefixes:?}, beside these:\n{strange}")
+    }
+
+    /// The same history without the records that do not count for the viewer, at
+    /// another capacity.
+    fn fewer(&self, random: &mut Random) -> Result<Course, String> {
+        let (counting, _) = parted(self.prefixes, &self.history.inputs);
+        self.elsewhere(random, counting)
+    }
+
+    /// The same history with a record of another one in the place of each that
+    /// does not count, at another capacity.
+    fn changed(&self, random: &mut Random) -> Result<Course, String> {
+        let (_, others) = parted(self.prefixes, self.strange);
+        let mut inputs = self.history.inputs.clone();
+        inputs.retain_mut(|input| {
+            if counts(self.prefixes, input) {
+                return true;
+            }
+            match others.is_empty() {
+                true => false,
+                false => {
+                    input.clone_from(&others[random.below(others.len())]);
+                    true
+                }
+            }
+        });
+        self.elsewhere(random, inputs)
+    }
+
+    /// The image of other inputs, at one of the history's larger capacities. What
+    /// has no room is refused.
+    fn elsewhere(&self, random: &mut Random, inputs: Vec<Vec<u8>>) -> Result<Course, String> {
+        let places = capacities(random, self.reached);
+        let other = History {
+            capacity: places[random.below(2)],
+            validated: self.history.validated,
+            inputs,
+        };
+        other.run(&mut Tally::default())
+    }
 }
 
 /// Names that the image has, names near them, and others.
@@ -97,38 +192,6 @@ fn compare_list(
     Ok(())
 }
 
-/// The same history without the records that do not count for the viewer, at
-/// another capacity.
-fn fewer(random: &mut Random, drawn: &Drawn, prefixes: &[String]) -> Result<Course, String> {
-    let (counting, _) = parted(prefixes, &drawn.inputs);
-    elsewhere(random, drawn, counting)
-}
-
-/// The same history with a record of another one in the place of each that does
-/// not count, at another capacity.
-fn changed(
-    random: &mut Random,
-    drawn: &Drawn,
-    strange: &Drawn,
-    prefixes: &[String],
-) -> Result<Course, String> {
-    let (_, others) = parted(prefixes, &strange.inputs);
-    let mut inputs = drawn.inputs.clone();
-    inputs.retain_mut(|input| {
-        if counts(prefixes, input) {
-            return true;
-        }
-        match others.is_empty() {
-            true => false,
-            false => {
-                input.clone_from(&others[random.below(others.len())]);
-                true
-            }
-        }
-    });
-    elsewhere(random, drawn, inputs)
-}
-
 /// Inputs that count for the viewer, and those that do not.
 fn parted(prefixes: &[String], inputs: &[Vec<u8>]) -> (Vec<Vec<u8>>, Vec<Vec<u8>>) {
     inputs
@@ -140,13 +203,6 @@ fn parted(prefixes: &[String], inputs: &[Vec<u8>]) -> (Vec<Vec<u8>>, Vec<Vec<u8>
 /// Whether an input is a record that can change what counts.
 fn counts(prefixes: &[String], input: &[u8]) -> bool {
     decode(input).is_ok_and(|(record, _)| expected::concerns(prefixes, &record))
-}
-
-/// The image of other inputs, at one of the history's larger capacities.
-fn elsewhere(random: &mut Random, drawn: &Drawn, inputs: Vec<Vec<u8>>) -> Result<Course, String> {
-    let places = capacities(random, drawn.reached);
-    let place = places[random.below(2)];
-    course(&inputs, place, drawn.validated)
 }
 
 /// The snapshot, and each lookup by visible, invisible, absent and bad names.

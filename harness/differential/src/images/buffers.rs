@@ -2,6 +2,7 @@
 
 use oracle::image::{FIXED_ROOM, MOST_CAPACITY};
 use oracle::layout::{HEAD_SIZE, Layout};
+use oracle::shrink::least_bytes;
 use wire::{Random, damaged};
 
 use super::{Compared, Tally, exact, lookups, rules, verdicts};
@@ -153,12 +154,7 @@ pub fn compare_random(tally: &mut Tally, seed: u64) -> Compared {
     let bound = [200, 400, 5_000, MOST_CAPACITY + 2][random.below(4)];
     let length = random.below(bound);
     let mut buffer: Vec<u8> = random.bytes(length);
-    let made = || format!("seed {seed}");
-    exact::compare(tally, "random bytes", &buffer, made)?;
-    lookups::compare_no_image(tally, &buffer)?;
-    verdicts::compare_no_image(tally, &buffer)?;
-    rules::compare_no_image(tally, &buffer)
-        .map_err(|difference| format!("random bytes, seed {seed}: {difference}"))?;
+    compare_least(tally, &buffer, compare_bytes)?;
     if length >= HEAD_SIZE {
         let used = HEAD_SIZE + random.below(length - HEAD_SIZE + 1);
         let layout = Layout {
@@ -169,5 +165,31 @@ pub fn compare_random(tally: &mut Tally, seed: u64) -> Compared {
         };
         buffer = layout.bytes(length);
     }
-    exact::compare(tally, "random entries", &buffer, made)
+    compare_least(tally, &buffer, |tally, buffer| {
+        exact::compare(tally, "random entries", buffer, || "drawn".to_owned())
+    })
+}
+
+/// A buffer, of which the fewest bytes that show a difference are told.
+fn compare_least(
+    tally: &mut Tally,
+    buffer: &[u8],
+    compare: impl Fn(&mut Tally, &[u8]) -> Compared,
+) -> Compared {
+    compare(tally, buffer).map_err(|difference| {
+        let compare = |buffer: &[u8]| compare(&mut Tally::default(), buffer);
+        let (buffer, difference) = least_bytes(difference, buffer, compare);
+        format!("{difference}\nof {}", exact::shown(&buffer))
+    })
+}
+
+/// Random bytes are no image, to any operation.
+fn compare_bytes(tally: &mut Tally, buffer: &[u8]) -> Compared {
+    exact::compare(tally, "random bytes", buffer, || "drawn".to_owned())?;
+    if oracle::exact::is_image(buffer) {
+        return Ok(());
+    }
+    lookups::compare_no_image(tally, buffer)?;
+    verdicts::compare_no_image(tally, buffer)?;
+    rules::compare_no_image(tally, buffer)
 }

@@ -2,13 +2,17 @@
 
 use krabka_metadata::MetadataRecord;
 use oracle::image::{FIXED_ROOM, MOST_CAPACITY, image};
-use wire::Random;
+use oracle::shrink::{self, simpler_held};
+use wire::{Random, decode, encoded};
 
 use super::subject::{Subject, applied};
 use super::{Compared, Tally, buffers, exact, lookups, rules, verdicts};
+use crate::histories::all_told;
 
 /// After how many records an image is looked at.
 const LENGTHS: [usize; 8] = [1, 2, 4, 8, 16, 32, 64, usize::MAX];
+/// The steps of a search for the least history: many buffers are compared at each.
+const STEPS: usize = 1_000;
 
 /// Compares on the images of the history of a seed. The first difference comes
 /// with the fewest of its records that show one.
@@ -17,25 +21,22 @@ pub fn compare_history(tally: &mut Tally, seed: u64) -> Compared {
     for length in LENGTHS {
         let records = &records[..length.min(records.len())];
         compare_image(tally, records, seed)
-            .map_err(|difference| smallest(records, seed, difference))?;
+            .map_err(|difference| least(records, seed, difference))?;
     }
     Ok(())
 }
 
-/// Leaves records out as long as there is a difference.
-fn smallest(records: &[MetadataRecord], seed: u64, difference: String) -> String {
-    let (mut records, mut difference) = (records.to_vec(), difference);
-    let mut place = 0;
-    while place < records.len() {
-        let mut fewer = records.clone();
-        fewer.remove(place);
-        match compare_image(&mut Tally::default(), &fewer, seed) {
-            Ok(()) => place += 1,
-            Err(other) => (records, difference) = (fewer, other),
-        }
-    }
-    let records: Vec<String> = records.iter().map(|r| format!("  {r:?}\n")).collect();
-    format!("{difference}\nafter these records:\n{}", records.concat())
+/// The difference with the fewest and simplest records that show one.
+fn least(records: &[MetadataRecord], seed: u64, difference: String) -> String {
+    let inputs: Vec<Vec<u8>> = records.iter().map(encoded).collect();
+    let simpler = |input: &Vec<u8>| simpler_held(input);
+    let (inputs, difference) = shrink::least(STEPS, difference, &inputs, simpler, |inputs| {
+        let decoded = inputs.iter().filter_map(|input| decode(input).ok());
+        let records: Vec<MetadataRecord> = decoded.map(|(record, _)| record).collect();
+        compare_image(&mut Tally::default(), &records, seed)
+    });
+    let inputs = all_told(&inputs);
+    format!("{difference}\nafter these records:\n{inputs}")
 }
 
 /// The image after these records at several capacities, and buffers near it.

@@ -1,6 +1,7 @@
 //! Open on dirty buffers.
 
 use oracle::image::image;
+use oracle::shrink::{self, BYTES};
 use wire::Random;
 
 use super::exact::shown;
@@ -17,7 +18,8 @@ pub fn compare_open(tally: &mut Tally, seed: u64) -> Compared {
     let fresh = Subject::of(&[]);
     for capacity in CAPACITIES {
         for buffer in dirty(&mut random, capacity) {
-            compare(tally, &fresh, buffer)?;
+            compare(tally, &fresh, buffer.clone())
+                .map_err(|difference| least(difference, &fresh, &buffer))?;
         }
     }
     Ok(())
@@ -29,6 +31,23 @@ fn dirty(random: &mut Random, capacity: usize) -> [Vec<u8>; 3] {
         vec![0xff; capacity],
         random.bytes(capacity),
     ]
+}
+
+/// The difference of a buffer with the least dirt that shows one.
+fn least(difference: String, fresh: &Subject, dirty: &[u8]) -> String {
+    let with = |dirt: &[(usize, u8)]| {
+        let mut buffer = vec![0; dirty.len()];
+        for (place, byte) in dirt {
+            buffer[*place] = *byte;
+        }
+        buffer
+    };
+    let unmoved = |_: &(usize, u8)| Vec::new();
+    let dirt: Vec<(usize, u8)> = dirty.iter().copied().enumerate().collect();
+    let (dirt, difference) = shrink::least(BYTES, difference, &dirt, unmoved, |dirt| {
+        compare(&mut Tally::default(), fresh, with(dirt))
+    });
+    format!("{difference}\nof {}", shown(&with(&dirt)))
 }
 
 /// The image of an empty cluster, or 1 and the buffer as it was.

@@ -55,12 +55,18 @@ fn values(form: Form, value: &[u8]) -> Vec<Vec<u8>> {
     }
 }
 
-/// Nothing, the first half, and all but the last byte.
+/// The bytes cut at the shorter lengths.
 fn cuts(bytes: &[u8]) -> Vec<Vec<u8>> {
-    let mut ends = vec![0, bytes.len() / 2, bytes.len().saturating_sub(1)];
-    ends.dedup();
-    ends.retain(|end| *end < bytes.len());
-    ends.iter().map(|end| bytes[..*end].to_vec()).collect()
+    let ends = shorter(bytes.len()).into_iter();
+    ends.map(|end| bytes[..end].to_vec()).collect()
+}
+
+/// What is tried in the place of a length: none, half, and one less.
+pub fn shorter(length: usize) -> Vec<usize> {
+    let mut lengths = vec![0, length / 2, length.saturating_sub(1)];
+    lengths.dedup();
+    lengths.retain(|shorter| *shorter < length);
+    lengths
 }
 
 /// Nothing, and all but one element; then a lower one.

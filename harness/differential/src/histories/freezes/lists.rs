@@ -2,6 +2,7 @@
 
 use krabka_metadata::MetadataImage;
 use oracle::freeze_list::{MOST_BYTES, MOST_NAMES, list};
+use oracle::shrink::shorter;
 use wire::Random;
 
 use crate::images::frozen_names;
@@ -100,4 +101,29 @@ fn other_bytes(random: &mut Random, mut bytes: Vec<u8>) -> Vec<u8> {
         _ => bytes.push(byte),
     }
     bytes
+}
+
+/// The names of a list, each with its length, and what comes behind them.
+pub fn parts(list: &[u8]) -> Vec<Vec<u8>> {
+    let (mut parts, mut rest) = (Vec::new(), list);
+    while !rest.is_empty() {
+        let (part, after) = rest.split_at(first(rest));
+        parts.push(part.to_vec());
+        rest = after;
+    }
+    parts
+}
+
+/// Where the first name ends, or else the bytes.
+fn first(list: &[u8]) -> usize {
+    let length = list.first_chunk().map(|length| u16::from_be_bytes(*length));
+    let end = length.map_or(list.len(), |length| 2 + usize::from(length));
+    end.min(list.len())
+}
+
+/// The part with shorter names.
+pub fn simpler(part: &[u8]) -> Vec<Vec<u8>> {
+    let name = part.get(2..).unwrap_or_default();
+    let ends = shorter(name.len()).into_iter();
+    ends.map(|end| list(&[&name[..end]])).collect()
 }

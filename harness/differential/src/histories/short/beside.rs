@@ -52,10 +52,9 @@ impl Beside {
         self.go_back(inputs);
         for input in &inputs[self.path.inputs.len()..] {
             self.step(tally, input)
-                .map_err(|difference| self.path.smallest(difference))?;
+                .map_err(|difference| self.path.least(difference, |_| Ok(())))?;
         }
         self.end(tally)
-            .map_err(|difference| self.path.tell(&difference, inputs.len()))
     }
 
     /// Back to where this history parts from the one before it.
@@ -75,7 +74,7 @@ impl Beside {
         Ok(())
     }
 
-    /// Snapshot, Restore of it, and all lookups.
+    /// What is asked there, where it is.
     fn end(&mut self, tally: &mut Tally) -> Compared {
         let course = self.courses.last().expect("the fresh image's course");
         let is_new = self.ends.insert(course.buffer.clone());
@@ -83,9 +82,19 @@ impl Beside {
         if !is_new && self.asked == Ends::New {
             return Ok(());
         }
-        course.clone().cut(tally, &mut self.random)?;
-        let reference = &course.reference;
-        let subject = Subject::beside(reference.image.clone(), reference.observed());
-        compare_stored(tally, &subject, &course.buffer)
+        let before = self.random.clone();
+        compare_end(tally, &mut self.random, course).map_err(|difference| {
+            self.path.least(difference, |course| {
+                compare_end(&mut Tally::default(), &mut before.clone(), course)
+            })
+        })
     }
+}
+
+/// Snapshot, Restore of it, and all lookups.
+fn compare_end(tally: &mut Tally, random: &mut Random, course: &Course) -> Compared {
+    course.clone().cut(tally, random)?;
+    let reference = &course.reference;
+    let subject = Subject::beside(reference.image.clone(), reference.observed());
+    compare_stored(tally, &subject, &course.buffer)
 }

@@ -5,6 +5,7 @@ use std::collections::BTreeSet;
 
 use oracle::facts::build::{delete_topic, feature_level, most_configs, partition_record};
 use oracle::short_history::{Counter, LONGEST, MOST_RECORDS, chosen, history as expected};
+use oracle::shrink::{least_bytes, least_records};
 use oracle::verdict::PAST_THE_LAST;
 use wire::{Random, encoded, encoded_offset, field, hex};
 
@@ -85,9 +86,33 @@ pub fn compare_drawn_numbers(tally: &mut Tally, seed: u64) -> Compared {
         let below = random.below(MOST_NUMBER) as u64;
         let any = random.bits();
         let number = random.pick(&[below, below, below, any]);
-        compare(tally, &input, number, expected(&input, number))?;
+        compare(tally, &input, number, expected(&input, number))
+            .map_err(|difference| least(difference, &inputs, number))?;
     }
     Ok(())
+}
+
+/// The difference of fewer and simpler records, under a lower number.
+fn least(difference: String, inputs: &[Vec<u8>], number: u64) -> String {
+    let differ = |inputs: &[Vec<u8>], number: u64| {
+        let input = inputs.concat();
+        compare(
+            &mut Tally::default(),
+            &input,
+            number,
+            expected(&input, number),
+        )
+    };
+    let (inputs, difference) = least_records(difference, inputs, |inputs| differ(inputs, number));
+    let under = |number: &[u8]| differ(&inputs, wide(number));
+    let (_, difference) = least_bytes(difference, &number.to_be_bytes(), under);
+    difference
+}
+
+/// The number of eight bytes or fewer.
+fn wide(bytes: &[u8]) -> u64 {
+    let put = |number: u64, byte: &u8| number << 8 | u64::from(*byte);
+    bytes.iter().fold(0, put)
 }
 
 /// No records; one, two that are equal, eight, and long ones; nine, the ninth

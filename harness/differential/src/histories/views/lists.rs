@@ -1,5 +1,6 @@
 //! Lists of prefixes: drawn from names, and such as are refused.
 
+use oracle::shrink::shorter;
 use wire::{OVER_A_LIMIT, PAST_THE_END, Random, WRONG_FIELD};
 
 /// The most prefixes of a viewer.
@@ -25,6 +26,14 @@ fn prefix(random: &mut Random, names: &[String]) -> String {
         2 => name.clone(),
         _ => name[..end].to_owned(),
     }
+}
+
+/// The prefix with fewer letters.
+pub fn simpler(prefix: &str) -> Vec<String> {
+    let counts = shorter(prefix.chars().count()).into_iter();
+    counts
+        .map(|count| prefix.chars().take(count).collect())
+        .collect()
 }
 
 /// Each as a two-byte length and its bytes.
