@@ -8,7 +8,7 @@ mod named;
 
 pub use named::{compare_bytes, compare_named};
 
-use oracle::shrink::least_bytes;
+use oracle::shrink::least_input;
 use wire::Random;
 
 use crate::images::{Compared, Tally};
@@ -38,7 +38,7 @@ impl Input {
         let compare = |bytes: &[u8]| {
             again(bytes.to_vec()).compare(&mut Tally::default(), &mut before.clone())
         };
-        least_bytes(difference, bytes, compare).1
+        least_input(difference, bytes, compare).1
     }
 }
 

@@ -169,6 +169,16 @@ pub fn least_bytes(
     least(BYTES, difference, bytes, lower, compare)
 }
 
+/// Of a record's bytes, good or damaged: first as a record, then as bytes.
+pub fn least_input(
+    difference: String,
+    input: &[u8],
+    mut compare: impl FnMut(&[u8]) -> Result<(), String>,
+) -> Least<u8> {
+    let (input, difference) = least_run(difference, input, &mut compare);
+    least_bytes(difference, &input, compare)
+}
+
 /// What is simpler than an input, and is held against the reference.
 pub fn simpler_held(input: &[u8]) -> Vec<Vec<u8>> {
     let mut inputs = simpler(input);

@@ -7,7 +7,9 @@ use krabka_metadata::MetadataRecord;
 use oracle::facts::build::{delete_topic, nodes, partition_record, topic};
 use oracle::generate::{Generator, Knobs};
 use oracle::held::is_held;
-use oracle::shrink::{Shrinker, least, least_bytes, least_records, least_run, pieces, simpler};
+use oracle::shrink::{
+    Shrinker, least, least_bytes, least_input, least_records, least_run, pieces, simpler,
+};
 use wire::{Random, decode, encoded, encoded_offset, read};
 
 type Compared = Result<(), String>;
@@ -166,6 +168,20 @@ fn runs_come_down_by_their_pieces() {
     let (least, difference) = least_run("a torn end".to_owned(), &run, compare);
     assert_eq!(difference, "2 pieces");
     assert_eq!(pieces(&least)[1].len(), 1);
+}
+
+/// A record comes down by its fields, with the lengths that count them; what is
+/// left goes down by its bytes.
+#[test]
+fn inputs_come_down_as_records_and_as_bytes() {
+    let record = encoded(&delete_topic(&"n".repeat(200)));
+    let compare = |input: &[u8]| match read(input) {
+        Ok(used) if used > 80 => Err(format!("{used} bytes")),
+        _ => Ok(()),
+    };
+    let (least, difference) = least_input(String::new(), &record, compare);
+    assert_eq!(difference, "81 bytes");
+    assert_eq!(least, encoded(&delete_topic(&"\0".repeat(75))));
 }
 
 /// Runs that are not held against the reference are not asked about.

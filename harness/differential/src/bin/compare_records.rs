@@ -5,7 +5,7 @@
 use std::process::ExitCode;
 
 use differential::{Asked, Compared, Comparison, Inputs, least_lists, log_offsets, replica_lists};
-use oracle::shrink::least_bytes;
+use oracle::shrink::least_input;
 use wire::{Lists, hex};
 
 const RECORDS: Comparison = Comparison {
@@ -28,7 +28,7 @@ fn main() -> ExitCode {
             let input = inputs.draw();
             compare_read(&mut read, &input).map_err(|difference| {
                 let compare = |input: &[u8]| compare_read(&mut [0; 256], input);
-                least_bytes(difference, &input, compare).1
+                least_input(difference, &input, compare).1
             })?;
             let (lists, out) = inputs.lists(&input);
             compare_write(&mut written, &lists, &out).map_err(|difference| {
@@ -89,7 +89,7 @@ fn compare_write(counts: &mut Counts, lists: &Lists, out: &[u8]) -> Compared {
     match answer == expected && ours == theirs {
         true => Ok(()),
         false => Err(format!(
-            "Write says {answer:?}, not {expected:?}, or other bytes, into {} bytes of {lists:02x?}",
+            "Write says {answer:?}, not {expected:?}, or other bytes, of {lists:02x?} into {}",
             out.len()
         )),
     }

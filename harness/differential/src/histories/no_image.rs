@@ -4,7 +4,7 @@
 use oracle::cases::cases;
 use oracle::exact::is_image;
 use oracle::facts::build::{delete_topic, feature_level, topic};
-use oracle::shrink::least_bytes;
+use oracle::shrink::{least_bytes, least_input};
 use oracle::verdict::NO_IMAGE;
 use wire::{Random, encoded, encoded_offset};
 
@@ -82,7 +82,7 @@ fn least(difference: String, bytes: &[u8], input: &[u8]) -> String {
         true => Ok(()),
         false => compare_numbers(&mut Tally::default(), bytes, input),
     };
-    let (input, difference) = least_bytes(difference, input, |input| compare(bytes, input));
+    let (input, difference) = least_input(difference, input, |input| compare(bytes, input));
     let (bytes, difference) = least_bytes(difference, bytes, |bytes| compare(bytes, &input));
     let (bytes, input) = (shown(&bytes), told(&input));
     format!("{difference}\nto {bytes}\nthat is no image, of this:\n{input}")
