@@ -46,14 +46,6 @@ fn more_by_one(n: u64) -> u64 {
     n + 1
 }
 
-// The line of a record.
-fn say_line(place: u64, rec: &[u8], said: Said) -> bool {
-    if rec.len() == 0 {
-        return true;
-    }
-    say_record(place, rec[0], said)
-}
-
 // One more record, whose line was said.
 fn counted(course: Course, written: bool) -> Course
     requires { ⌜ course .records < 9223372036854775807 ⌝ }
@@ -165,7 +157,7 @@ pub fn turn(
 {
     let offset = course.records;
     let said = give(plain, offset, rec);
-    let first = counted(course, say_line(place, rec, said));
+    let first = counted(course, say_record(place, rec, said));
     let second = with_verdict(other, offset, rec, said, cuts, first);
     let third = with_restart(other, cuts, second);
     with_snapshots(plain, other, third)

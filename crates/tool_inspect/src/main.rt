@@ -2,10 +2,14 @@
 // says whether that changed a later answer.
 //
 //     inspect [FILE] [cut N | cut all] [at CAPACITY]
+//     inspect help
 
+use libc::STDIN_FILENO;
 use tool_arguments::Cuts;
+use tool_arguments::NOTHING_WRONG;
 use tool_arguments::Options;
 use tool_arguments::read_options;
+use tool_arguments::say_fault;
 use tool_course::run::run;
 use tool_course::turns::Course;
 use tool_parting::ids::renamed;
@@ -74,27 +78,60 @@ fn inspect_at(fd: i32, plain: &mut [u8], cut: &mut [u8], capacity: usize, cuts: 
     inspect(fd, &mut plain[..capacity], &mut cut[..capacity], cuts)
 }
 
-// Opens a file and inspects it, or says why it cannot be read.
-fn inspect_path(path: &[u8], options: Options) {
-    let fd = os::open_read(path);
-    if fd < 0 {
-        os::fail(path);
-        return;
-    }
+// Inspects an open file, or says why it cannot be read.
+fn inspect_open(fd: i32, path: &[u8], options: Options) {
     let mut plain = io::large_buffer();
     let mut cut = io::large_buffer();
     let cuts = options.cuts;
     if !inspect_at(fd, &mut plain, &mut cut, options.capacity as usize, cuts) {
         os::fail(path);
     }
+}
+
+// Opens a file and inspects it, or says why it cannot be read. `-` is standard input.
+fn inspect_path(path: &[u8], options: Options) {
+    if wire::same(path, b"-") {
+        inspect_open(STDIN_FILENO, b"standard input", options);
+        return;
+    }
+    let fd = os::open_read(path);
+    if fd < 0 {
+        os::fail(path);
+        return;
+    }
+    inspect_open(fd, path, options);
     libc::close(fd);
+}
+
+// What there is to ask.
+fn say_help() -> bool {
+    say(
+        b"inspect [FILE] [cut N | cut all] [at CAPACITY]\n\
+        \n\
+        Reads a file of records, gives each to Validate and, where that says 0, to Apply, and says what then exists.\n\
+        \n\
+        FILE         the records; '-' is standard input, and none is plan.records\n\
+        cut N        restarts the image behind N records, and says what that changes\n\
+        cut all      restarts it behind each record\n\
+        at CAPACITY  an image of so many bytes, from 144 to 65536; without it 65536\n\
+        help         these lines\n\
+        \n\
+        For example: inspect plan.records cut 12 at 4096\n",
+    )
 }
 
 fn main() {
     let mut path = io::buffer();
     let options = read_options(&mut path);
-    if !options.good {
-        complain(b"usage: inspect [FILE] [cut N | cut all] [at CAPACITY]");
+    if options.help {
+        say_help();
+        return;
+    }
+    if options.fault != NOTHING_WRONG {
+        say_fault(options.fault);
+        complain(
+            b"'inspect help' says what there is; for example: inspect plan.records cut 12 at 4096",
+        );
         return;
     }
     let length = options.length;

@@ -5,8 +5,8 @@ use crate::snapshots::take_snapshot;
 use keys::value_at;
 use model::answers::Answer;
 use model::kinds::TOPIC;
+use tool_subjects::say_subject;
 use tool_words::say;
-use tool_words::say_field;
 ghost use Prim.Native.Nat.{_≤_};
 ghost use lib.ListN.{length};
 
@@ -63,8 +63,8 @@ fn with_record(plain: &[u8], other: &[u8], rec: &[u8], seen: Apart) -> Apart {
     }
     Apart {
         count: more_by_one(seen.count),
-        written: say(b"  after the restart: the id of topic ")
-            && say_field(rec, 1)
+        written: say(b"  after the restart: the id of ")
+            && say_subject(rec)
             && say(b" names another topic\n"),
     }
 }

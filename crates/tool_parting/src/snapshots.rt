@@ -1,7 +1,6 @@
-// The records of an image's snapshot, and where two snapshots part.
+// The records of an image's snapshot, and whether two snapshots are the same.
+use crate::differences::say_differences;
 use model::answers::Answer;
-use tool_words::names::say_kind;
-use tool_words::say;
 ghost use mathlib.Core.Path.{_≡_};
 ghost use Prim.Native.Nat.{_≤_, _<_};
 ghost use lib.ListN.{length, take};
@@ -46,47 +45,13 @@ pub fn end_of(records: &[u8], at: usize) -> usize
     }
 }
 
-// The kind of the record at a place, 0 at the end.
-fn kind_at(records: &[u8], at: usize) -> u8 {
-    if at < records.len() {
-        return records[at];
-    }
-    0
-}
-
-// Where the first record begins that the other records do not have there.
-fn parting(records: &[u8], other: &[u8]) -> usize {
-    let mut at = 0;
-    while at < records.len() {
-        let end = end_of(records, at);
-        if other.len() < end {
-            return at;
-        }
-        if !wire::same(&records[at..end], &other[at..end]) {
-            return at;
-        }
-        at = end;
-    }
-    at
-}
-
-// Says which record two snapshots do not share.
-fn say_parting(records: &[u8], other: &[u8]) -> bool {
-    let at = parting(records, other);
-    let mut kind = kind_at(records, at);
-    if kind == 0 {
-        kind = kind_at(other, at);
-    }
-    say(b"  after the restart: the snapshot has another ") && say_kind(kind) && say(b"\n")
-}
-
 // Whether two snapshots are the same, and whether what was said of it was written.
 pub struct Compared {
     pub same: bool,
     pub written: bool,
 }
 
-// Whether two snapshots have the same records; where not, says where they part.
+// Whether two snapshots have the same records; where not, says every difference.
 fn same_records(records: &[u8], other: &[u8]) -> Compared
     ensures { λ r. ⌜ r .same ≡ sameBytes (now (records .entry)) (now (other .entry)) ⌝ }
 {
@@ -99,11 +64,11 @@ fn same_records(records: &[u8], other: &[u8]) -> Compared
     }
     Compared {
         same,
-        written: say_parting(records, other),
+        written: say_differences(records, other),
     }
 }
 
-// Whether two images have the same snapshot; where not, says where they part.
+// Whether two images have the same snapshot; where not, says every difference.
 pub fn same_snapshots(plain: &[u8], other: &[u8], out: &mut [u8], more: &mut [u8]) -> Compared
     ensures { λ r. ⌜ r .same ≡ sameBytes (written (snapshotOf (now (plain .entry)) (now (out .entry)))) (written (snapshotOf (now (other .entry)) (now (more .entry)))) ⌝ }
 {

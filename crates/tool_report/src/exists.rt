@@ -1,22 +1,23 @@
 // What exists in an image: its snapshot read record by record.
-use crate::quotas::say_quota;
-use crate::topics::say_topic;
 use header::NO_OFFSET;
 use image::is_image;
+use keys::value_at;
 use model::NodeId;
+use model::answers::Answer;
 use model::answers::Rated;
 use model::answers::Value;
 use model::kinds;
+use tool_details::say_details;
 use tool_parting::snapshots::end_of;
 use tool_parting::snapshots::more_by_one;
 use tool_parting::snapshots::take_snapshot;
-use tool_words::field_number;
+use tool_plans::say_alone;
+use tool_plans::say_topic;
+use tool_subjects::say_node;
+use tool_subjects::say_subject;
+use tool_words::parts::number_in;
 use tool_words::say;
-use tool_words::say_field;
 use tool_words::say_of;
-
-// The node whose configs are every node's.
-const DEFAULT: u64 = 0xffff_ffff_ffff_ffff;
 
 // What was seen of a snapshot's records: how many of each, the node whose configs came last, and whether all that was
 // said was written.
@@ -29,30 +30,43 @@ struct Seen {
     written: bool,
 }
 
-// Which names a freeze holds.
-fn say_frozen(rec: &[u8]) -> bool {
-    if field_number(rec, 2) == 0 {
-        return say(b"frozen: ");
-    }
-    say(b"frozen, every name that begins with: ")
+// The line of a record: what it is about, and what it says of it.
+fn say_entry(rec: &[u8]) -> bool {
+    say_subject(rec) && say_details(rec) && say(b"\n")
 }
 
-fn say_freeze(rec: &[u8]) -> bool {
-    say_frozen(rec) && say_field(rec, 1) && say(b"\n")
+// The node of a config.
+fn node_of(rec: &[u8]) -> u64 {
+    if rec.len() < 3 {
+        return 0;
+    }
+    number_in(&rec[3..], 1)
 }
 
-// A node, by whose configs a throttle is set.
-fn say_node(node: NodeId) -> bool {
-    if node.0 == DEFAULT {
-        return say(b"every other broker");
+// Whether the topic of a name is stored.
+fn is_stored(image: &[u8], name: &[u8]) -> bool {
+    let mut out = io::buffer();
+    match lookup::topic(image, name, &mut out) {
+        Answer::Used(n) => 0 < n,
+        Answer::Refused(number) => false,
     }
-    say_of(b"broker ", node.0)
+}
+
+// Whether the topic of a partition is stored.
+fn has_topic(image: &[u8], rec: &[u8]) -> bool {
+    if rec.len() < 3 {
+        return false;
+    }
+    let p = value_at(rec, 1);
+    let start = p.start;
+    let end = p.end;
+    is_stored(image, &rec[start..end])
 }
 
 // A throttle of a node, where one is set.
 fn say_throttle(image: &[u8], node: NodeId, kind: u8, words: &[u8]) -> bool {
     match lookup::throttle(image, node, kind) {
-        Rated::Rate(n) => say_node(node) && say_of(words, n) && say(b" bytes a second\n"),
+        Rated::Rate(n) => say_node(node.0) && say_of(words, n) && say(b" bytes a second\n"),
         Rated::None => true,
         Rated::Refused(number) => true,
     }
@@ -65,16 +79,22 @@ fn say_throttles(image: &[u8], node: NodeId) -> bool {
         && say_throttle(image, node, 2, b", throttle between log directories: ")
 }
 
-// A config of a broker: its throttles, once for all configs of a node. They stand together.
+// A config of a broker; before a node's first one its throttles. A node's configs stand together.
 fn with_config(image: &[u8], rec: &[u8], seen: Seen) -> Seen {
-    let node = field_number(rec, 1);
-    if seen.configured && seen.node == node {
-        return seen;
-    }
+    let node = node_of(rec);
     let mut next = seen;
     next.configured = true;
     next.node = node;
-    next.written = say_throttles(image, NodeId(node));
+    next.written = (seen.configured && seen.node == node) || say_throttles(image, NodeId(node));
+    next.written = next.written && say_entry(rec);
+    next
+}
+
+// A partition, which its plan's lines have, where that is stored.
+fn with_partition(image: &[u8], rec: &[u8], seen: Seen) -> Seen {
+    let mut next = seen;
+    next.partitions = more_by_one(seen.partitions);
+    next.written = has_topic(image, rec) || say_alone(rec);
     next
 }
 
@@ -89,12 +109,14 @@ fn with_record(image: &[u8], records: &[u8], rec: &[u8], seen: Seen) -> Seen {
             next.topics = more_by_one(seen.topics);
             next.written = say_topic(records, rec);
         }
-        kinds::PARTITION => next.partitions = more_by_one(seen.partitions),
-        kinds::BROKER_REGISTRATION => next.brokers = more_by_one(seen.brokers),
+        kinds::PARTITION => next = with_partition(image, rec, seen),
+        kinds::BROKER_REGISTRATION => {
+            next.brokers = more_by_one(seen.brokers);
+            next.written = say_entry(rec);
+        }
         kinds::BROKER_CONFIG => next = with_config(image, rec, seen),
-        kinds::CLIENT_QUOTA => next.written = say_quota(rec),
-        kinds::TOPIC_FREEZE => next.written = say_freeze(rec),
-        _ => {}
+        kinds::LOG_OFFSET => {}
+        _ => next.written = say_entry(rec),
     }
     next
 }

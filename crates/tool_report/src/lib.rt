@@ -1,4 +1,2 @@
 // What the tool's report says to exist in an image.
 pub mod exists;
-mod quotas;
-mod topics;

@@ -2,10 +2,12 @@
 //
 // What says something answers whether it was written. Where it was not, standard error has why, and whoever asked says no more.
 pub mod names;
+pub mod parts;
 
-use keys::value_at;
 use libc::STDERR_FILENO;
 use libc::STDOUT_FILENO;
+ghost use Prim.Native.Nat.{_≤_};
+ghost use lib.ListN.{length};
 
 // The answer of a write; where it failed, standard error has why.
 fn explained(written: bool) -> bool {
@@ -28,9 +30,14 @@ pub fn say_of(words: &[u8], n: u64) -> bool {
     say(words) && say_number(n)
 }
 
-// All sixteen digits of a number, as those of bits.
+// All sixteen digits of a number.
+pub fn say_digits(bits: u64) -> bool {
+    explained(io::print_hex(STDOUT_FILENO, bits, 16))
+}
+
+// A number's digits, as those of bits.
 pub fn say_bits(bits: u64) -> bool {
-    say(b"0x") && explained(io::print_hex(STDOUT_FILENO, bits, 16))
+    say(b"0x") && say_digits(bits)
 }
 
 // How far a number is from 0.
@@ -48,61 +55,38 @@ pub fn say_integer(n: i64) -> bool {
     say_of(b"-", magnitude(n))
 }
 
-// A byte of a name, but for a control byte: a name cannot make a line of its own.
-fn say_byte(byte: u8) -> bool {
-    if byte < 32 || byte == 127 {
-        return say(b"?");
+// Where the first control byte of a name from a place on stands, or the name's end.
+fn plain_end(name: &[u8], at: usize) -> usize
+    requires { ⌜ at ≤ length (now name) ⌝ }
+    ensures { λ r. ⌜ (at ≤ r) × (r ≤ length (now (name .entry))) ⌝ }
+{
+    let mut end = at;
+    while end < name.len() {
+        if name[end] < 32 || name[end] == 127 {
+            return end;
+        }
+        end += 1;
     }
-    say(&[byte])
+    end
 }
 
+// A name, with a mark for each control byte: a name cannot make a line of its own.
 pub fn say_name(name: &[u8]) -> bool {
-    let mut i = 0;
-    while i < name.len() {
-        if !say_byte(name[i]) {
+    let mut at = 0;
+    while at < name.len() {
+        let end = plain_end(name, at);
+        if !say(&name[at..end]) {
             return false;
         }
-        i += 1;
+        if name.len() <= end {
+            return true;
+        }
+        if !say(b"?") {
+            return false;
+        }
+        at = end + 1;
     }
     true
-}
-
-// The name in a record's field, none where it is not there.
-pub fn say_field(rec: &[u8], tag: usize) -> bool {
-    if rec.len() < 3 {
-        return true;
-    }
-    let p = value_at(rec, tag);
-    let start = p.start;
-    let end = p.end;
-    say_name(&rec[start..end])
-}
-
-// The number that a field of at most eight bytes spells, 0 where there is none.
-pub fn field_number(rec: &[u8], tag: usize) -> u64 {
-    if rec.len() < 3 {
-        return 0;
-    }
-    let p = value_at(rec, tag);
-    let width = p.end - p.start;
-    if 8 < width {
-        return 0;
-    }
-    wire::get(rec, p.start, width)
-}
-
-// How many numbers a signed field of two bytes has, and one of four.
-pub const OF_TWO: u64 = 0x1_0000;
-
-pub const OF_FOUR: u64 = 0x1_0000_0000;
-
-// A word, and the signed number behind it that a field spells.
-pub fn say_signed(words: &[u8], rec: &[u8], tag: usize, numbers: u64) -> bool {
-    let n = field_number(rec, tag);
-    if n < numbers / 2 || numbers < n {
-        return say_of(words, n);
-    }
-    say(words) && say_of(b"-", numbers - n)
 }
 
 // A line on standard error.

@@ -7,10 +7,10 @@ use Rattle.tool_arguments.proofs.read_options.Statement.{statement}
 use Rattle.tool_arguments.proofs.read_options.Tie as tie
 
 abbrev Inv-loop : tie.InvT-loop
-Inv-loop path₀ options₀ i₀ count path options i = (length path ≡ length path₀) × (1 ≤ i)
+Inv-loop path₀ reading₀ i₀ count path reading i = (length path ≡ length path₀) × (1 ≤ i)
 
 abbrev μ-loop : tie.MeasureT-loop
-μ-loop path₀ options₀ i₀ count path options i = count - i
+μ-loop path₀ reading₀ i₀ count path reading i = count - i
 
 defaults-requires : tie.Need-defaults-requires Inv-loop μ-loop
 defaults-requires c κs = search needs
@@ -33,8 +33,8 @@ loop-less c = search needs
 loop-again : tie.Need-loop-again Inv-loop μ-loop
 loop-again c = search needs
 
-ends-asking-requires : tie.Need-ends-asking-requires Inv-loop μ-loop
-ends-asking-requires c κs = search needs
+with-fault-requires : tie.Need-with-fault-requires Inv-loop μ-loop
+with-fault-requires c κs = search needs
 
 same-length : tie.Need-same-length Inv-loop μ-loop
 same-length c = search needs
@@ -61,7 +61,7 @@ read-options-spec =
     add-i
     loop-less
     loop-again
-    ends-asking-requires
+    with-fault-requires
     same-length
     returns
     same-length-2
