@@ -1,0 +1,625 @@
+//! A line, as text or as JSON, back to a kind and a run of fields. What cannot be put
+//! into bytes at all is refused here; what a field may hold is the library's to judge.
+
+use crate::run::Run;
+use crate::spell::Style;
+use crate::table::{self, Field, Form, KINDS, Presence, Shape};
+
+/// Above every limit of a value. A longer one is cut to it, so that its length fits two
+/// bytes, and the library refuses it as it would refuse the whole.
+const MOST_VALUE: usize = 4_096;
+
+/// What is wrong with a line: in which field, if it is in one, and why.
+#[derive(Debug, PartialEq, Eq)]
+pub struct Fault {
+    pub field: String,
+    pub reason: String,
+}
+
+impl Fault {
+    pub fn new(reason: impl Into<String>) -> Box<Self> {
+        Box::new(Self {
+            field: String::new(),
+            reason: reason.into(),
+        })
+    }
+
+    /// The fault inside a field: `endpoints[1].port`.
+    pub fn inside(mut self: Box<Self>, name: &str) -> Box<Self> {
+        let dot = match self.field.bytes().next() {
+            None | Some(b'[') => "",
+            Some(_) => ".",
+        };
+        self.field = format!("{name}{dot}{}", self.field);
+        self
+    }
+}
+
+type Parsed<T> = Result<T, Box<Fault>>;
+
+/// Puts the fields of a line into an empty run, and gives the kind's number.
+pub fn line(line: &[u8], style: Style, run: &mut Vec<u8>) -> Parsed<u8> {
+    let mut parser = Parser { line, at: 0, style };
+    parser.blanks();
+    let (number, shape) = match style {
+        Style::Text => parser.kind()?,
+        Style::Json => parser.json_kind()?,
+    };
+    let closing = (style == Style::Json).then_some(b'}');
+    parser.fields(shape, closing, run)?;
+    parser.blanks();
+    match parser.peek() {
+        None => Ok(number),
+        Some(_) => Err(Fault::new(format!(
+            "{} stands behind the record",
+            parser.rest()
+        ))),
+    }
+}
+
+/// Whether a line of text is left out: it is blank, or a remark.
+pub fn is_skipped(line: &[u8]) -> bool {
+    let mut bytes = line.iter().skip_while(|byte| is_blank(**byte));
+    matches!(bytes.next(), None | Some(b'#'))
+}
+
+fn is_blank(byte: u8) -> bool {
+    matches!(byte, b' ' | b'\t' | b'\r' | b'\n')
+}
+
+struct Parser<'a> {
+    line: &'a [u8],
+    at: usize,
+    style: Style,
+}
+
+impl<'a> Parser<'a> {
+    fn peek(&self) -> Option<u8> {
+        self.line.get(self.at).copied()
+    }
+
+    fn blanks(&mut self) {
+        while self.peek().is_some_and(is_blank) {
+            self.at += 1;
+        }
+    }
+
+    /// Steps over a byte, if it is the next one.
+    fn takes(&mut self, byte: u8) -> bool {
+        let is = self.peek() == Some(byte);
+        self.at += usize::from(is);
+        is
+    }
+
+    fn expect(&mut self, byte: u8) -> Parsed<()> {
+        if self.takes(byte) {
+            return Ok(());
+        }
+        let wanted = char::from(byte);
+        Err(Fault::new(format!(
+            "{wanted} expected, not {}",
+            self.rest()
+        )))
+    }
+
+    /// What comes next, shortened, for a reason.
+    fn rest(&self) -> String {
+        shown(self.line.get(self.at..).unwrap_or_default())
+    }
+
+    /// The bytes up to the first one that ends a word.
+    fn word(&mut self, ends: impl Fn(u8) -> bool) -> &'a [u8] {
+        let rest = self.line.get(self.at..).unwrap_or_default();
+        let end = rest.iter().position(|byte| ends(*byte));
+        let word = rest.get(..end.unwrap_or(rest.len())).unwrap_or_default();
+        self.at += word.len();
+        word
+    }
+
+    /// A value without blanks: bare in text, a string without escapes in JSON.
+    fn bare(&mut self) -> Parsed<&'a [u8]> {
+        if self.style == Style::Text {
+            return Ok(self.word(ends_value));
+        }
+        self.expect(b'"')?;
+        let word = self.word(|byte| matches!(byte, b'"' | b'\\'));
+        self.expect(b'"')?;
+        Ok(word)
+    }
+
+    fn kind(&mut self) -> Parsed<(u8, &'static Shape)> {
+        let word = self.word(is_blank);
+        kind_named(word)
+    }
+
+    /// The kind of an object, wherever its member stands. The parser is left behind the
+    /// brace; the member is passed over again among the fields.
+    fn json_kind(&mut self) -> Parsed<(u8, &'static Shape)> {
+        self.expect(b'{')?;
+        let start = self.at;
+        let mut first = true;
+        while self.member(&mut first, Some(b'}'))? {
+            if self.field_name()? == b"kind" {
+                let kind = kind_named(self.bare()?)?;
+                self.at = start;
+                return Ok(kind);
+            }
+            self.pass_value()?;
+        }
+        Err(Fault::new("the kind is missing").inside("kind"))
+    }
+
+    /// Whether there is another field before the closing byte, or the line's end. In JSON
+    /// a comma stands between two.
+    fn member(&mut self, first: &mut bool, closing: Option<u8>) -> Parsed<bool> {
+        self.blanks();
+        let ends = match closing {
+            Some(byte) => self.takes(byte),
+            None => self.peek().is_none(),
+        };
+        if ends {
+            return Ok(false);
+        }
+        if self.style == Style::Json && !*first {
+            self.expect(b',')?;
+            self.blanks();
+        }
+        *first = false;
+        Ok(true)
+    }
+
+    fn field_name(&mut self) -> Parsed<&'a [u8]> {
+        if self.style == Style::Text {
+            let name = self.word(|byte| byte == b'=' || ends_value(byte));
+            if self.takes(b'=') {
+                return Ok(name);
+            }
+            let found = shown(name);
+            return Err(Fault::new(format!("name=value expected, not {found}")));
+        }
+        let name = self.bare()?;
+        self.blanks();
+        self.expect(b':')?;
+        self.blanks();
+        Ok(name)
+    }
+
+    /// Puts the fields up to the closing byte, or the line's end, behind the run, in the
+    /// order of their tags.
+    fn fields(&mut self, shape: &Shape, closing: Option<u8>, run: &mut Vec<u8>) -> Parsed<()> {
+        let start = run.len();
+        let (mut first, mut seen, mut last) = (true, 0_u32, 0);
+        let mut is_ordered = true;
+        while self.member(&mut first, closing)? {
+            let name = self.field_name()?;
+            if self.style == Style::Json && name == b"kind" {
+                self.kind_again(shape, &mut seen)?;
+                continue;
+            }
+            let field = named(shape, name, last)?;
+            let mark = 1 << (field.tag & 31);
+            if seen & mark != 0 {
+                return Err(Fault::new("it stands twice").inside(field.name));
+            }
+            seen |= mark;
+            is_ordered &= field.tag > last;
+            last = field.tag;
+            self.field(field, run)
+                .map_err(|fault| fault.inside(field.name))?;
+        }
+        if !is_ordered {
+            order(run, start);
+        }
+        Ok(())
+    }
+
+    /// Passes over the kind's member, once and in a record alone: no field has tag 0.
+    fn kind_again(&mut self, shape: &Shape, seen: &mut u32) -> Parsed<()> {
+        if !KINDS.iter().any(|kind| kind.name == shape.name) {
+            return Err(unknown_field(shape, b"kind"));
+        }
+        if *seen & 1 != 0 {
+            return Err(Fault::new("it stands twice").inside("kind"));
+        }
+        *seen |= 1;
+        self.bare().map(|_| ())
+    }
+
+    /// Puts a field behind the run: one, or one for each element; none for JSON's null of
+    /// an optional one.
+    fn field(&mut self, field: &Field, run: &mut Vec<u8>) -> Parsed<()> {
+        match field.presence {
+            Presence::Repeated => {
+                let mut index = 0;
+                self.list(|parser| {
+                    let element = parser.tagged(field, run);
+                    index += 1;
+                    element.map_err(|fault| fault.inside(&format!("[{}]", index - 1)))
+                })?;
+            }
+            Presence::Optional if self.is_null() => {}
+            _ => self.tagged(field, run)?,
+        }
+        let follows = self.peek().filter(|byte| !ends_value(*byte));
+        if follows.is_some() {
+            return Err(Fault::new(format!(
+                "{} stands behind the value",
+                self.rest()
+            )));
+        }
+        Ok(())
+    }
+
+    fn is_null(&mut self) -> bool {
+        let rest = self.line.get(self.at..).unwrap_or_default();
+        let is = self.style == Style::Json && rest.starts_with(b"null");
+        self.at += if is { 4 } else { 0 };
+        is
+    }
+
+    fn tagged(&mut self, field: &Field, run: &mut Vec<u8>) -> Parsed<()> {
+        run.extend_from_slice(&[field.tag, 0, 0]);
+        let start = run.len();
+        self.value(&field.form, run)?;
+        if !matches!(field.form, Form::Shape(_)) {
+            clip(run, start, &field.form);
+        }
+        let length = u16::try_from(run.len() - start).unwrap_or(u16::MAX);
+        if let Some(place) = run.get_mut(start - 2..start) {
+            place.copy_from_slice(&length.to_be_bytes());
+        }
+        Ok(())
+    }
+
+    fn value(&mut self, form: &Form, run: &mut Vec<u8>) -> Parsed<()> {
+        match form {
+            Form::U16 => self.number(0, u16::MAX.into(), 2, run),
+            Form::U64 => self.number(0, u64::MAX.into(), 8, run),
+            Form::I16 => self.number(i16::MIN.into(), i16::MAX.into(), 2, run),
+            Form::I32 => self.number(i32::MIN.into(), i32::MAX.into(), 4, run),
+            Form::I64 | Form::Offset => self.number(i64::MIN.into(), i64::MAX.into(), 8, run),
+            Form::F64 => self.double(run),
+            Form::Id => self.id(run),
+            Form::Bool => self.bool(run),
+            Form::Enum(names) => self.choice(names, run),
+            Form::Text | Form::Key => self.string(run),
+            Form::Bytes => self.bytes(run),
+            Form::Nodes | Form::NodeSet => {
+                self.list(|parser| parser.number(0, u64::MAX.into(), 8, run))
+            }
+            Form::Ids => self.list(|parser| parser.id(run)),
+            Form::Shape(shape) => {
+                self.expect(b'{')?;
+                self.fields(shape, Some(b'}'), run)
+            }
+        }
+    }
+
+    fn list(&mut self, mut element: impl FnMut(&mut Self) -> Parsed<()>) -> Parsed<()> {
+        self.expect(b'[')?;
+        self.blanks();
+        if self.takes(b']') {
+            return Ok(());
+        }
+        loop {
+            self.blanks();
+            element(self)?;
+            self.blanks();
+            if self.takes(b']') {
+                return Ok(());
+            }
+            self.expect(b',')?;
+        }
+    }
+
+    /// A whole number between two ends, in so many bytes.
+    fn number(&mut self, least: i128, most: i128, width: usize, run: &mut Vec<u8>) -> Parsed<()> {
+        let word = self.word(ends_value);
+        let (is_negative, digits) = match word {
+            [b'-', digits @ ..] => (true, digits),
+            digits => (false, digits),
+        };
+        if digits.is_empty() || !digits.iter().all(u8::is_ascii_digit) {
+            return Err(Fault::new(format!(
+                "a whole number expected, not {}",
+                shown(word)
+            )));
+        }
+        let size = digits.iter().try_fold(0_u64, |number, digit| {
+            number.checked_mul(10)?.checked_add(u64::from(digit - b'0'))
+        });
+        // no field holds what a u64 does not
+        let size = size.map_or(i128::MAX, i128::from);
+        let number = if is_negative { -size } else { size };
+        if !(least..=most).contains(&number) {
+            let word = shown(word);
+            return Err(Fault::new(format!(
+                "{word} is out of range, {least} to {most}"
+            )));
+        }
+        let bytes = number.to_be_bytes();
+        run.extend_from_slice(bytes.get(bytes.len() - width..).unwrap_or_default());
+        Ok(())
+    }
+
+    /// A decimal that a double holds, or a double's bits.
+    fn double(&mut self, run: &mut Vec<u8>) -> Parsed<()> {
+        let word = match self.peek() {
+            Some(b'"') if self.style == Style::Json => self.bare()?,
+            _ => self.word(ends_value),
+        };
+        let wrong = || {
+            Fault::new(format!(
+                "a number expected, or 0x and 16 hex digits, not {}",
+                shown(word)
+            ))
+        };
+        if let Some(digits) = word.strip_prefix(b"0x") {
+            return match digits.len() {
+                16 => unhex(digits, run),
+                _ => Err(wrong()),
+            };
+        }
+        let is_decimal = |byte: &u8| matches!(byte, b'0'..=b'9' | b'-' | b'+' | b'.' | b'e' | b'E');
+        if !word.iter().all(is_decimal) {
+            return Err(wrong());
+        }
+        let text = str::from_utf8(word).map_err(|_| wrong())?;
+        let double: f64 = text.parse().map_err(|_| wrong())?;
+        if double.is_infinite() {
+            return Err(Fault::new(format!("{text} is out of range of a double")));
+        }
+        run.extend_from_slice(&double.to_be_bytes());
+        Ok(())
+    }
+
+    fn id(&mut self, run: &mut Vec<u8>) -> Parsed<()> {
+        let word = self.bare()?;
+        if word.len() != 32 {
+            return Err(Fault::new(format!(
+                "32 hex digits expected, not {}",
+                shown(word)
+            )));
+        }
+        unhex(word, run)
+    }
+
+    fn bytes(&mut self, run: &mut Vec<u8>) -> Parsed<()> {
+        let word = self.bare()?;
+        let digits = match self.style {
+            Style::Json => Some(word),
+            Style::Text => word.strip_prefix(b"hex:"),
+        };
+        let digits = digits.ok_or_else(|| {
+            Fault::new(format!("hex: and hex digits expected, not {}", shown(word)))
+        })?;
+        unhex(digits, run)
+    }
+
+    fn bool(&mut self, run: &mut Vec<u8>) -> Parsed<()> {
+        let byte = match self.word(ends_value) {
+            b"false" => 0,
+            b"true" => 1,
+            word => {
+                return Err(Fault::new(format!(
+                    "true or false expected, not {}",
+                    shown(word)
+                )));
+            }
+        };
+        run.push(byte);
+        Ok(())
+    }
+
+    fn choice(&mut self, names: &[&str], run: &mut Vec<u8>) -> Parsed<()> {
+        let word = self.bare()?;
+        let index = names.iter().position(|name| name.as_bytes() == word);
+        let index = index.and_then(|index| u8::try_from(index).ok());
+        let index = index.ok_or_else(|| {
+            let (found, names) = (shown(word), names.join(", "));
+            Fault::new(format!("{found} is none of {names}"))
+        })?;
+        run.push(index);
+        Ok(())
+    }
+
+    fn string(&mut self, run: &mut Vec<u8>) -> Parsed<()> {
+        if !self.takes(b'"') {
+            let found = self.rest();
+            return Err(Fault::new(format!(
+                "a string in double quotes expected, not {found}"
+            )));
+        }
+        loop {
+            let plain = self.word(|byte| matches!(byte, b'"' | b'\\' | 0..=0x1f));
+            run.extend_from_slice(plain);
+            match self.peek() {
+                None => return Err(Fault::new("the string has no end")),
+                Some(b'"') => {
+                    self.at += 1;
+                    return Ok(());
+                }
+                Some(b'\\') => self.escape(run)?,
+                Some(_) => {
+                    return Err(Fault::new(
+                        "a control character stands in the string; it goes as \\n, \\t or \\u00..",
+                    ));
+                }
+            }
+        }
+    }
+
+    fn escape(&mut self, run: &mut Vec<u8>) -> Parsed<()> {
+        self.at += 1;
+        let letter = self.peek();
+        self.at += 1;
+        let byte = match letter {
+            Some(byte @ (b'"' | b'\\' | b'/')) => byte,
+            Some(b'n') => b'\n',
+            Some(b'r') => b'\r',
+            Some(b't') => b'\t',
+            Some(b'b') => 0x08,
+            Some(b'f') => 0x0c,
+            Some(b'u') => return self.unicode(run),
+            _ => {
+                return Err(Fault::new(
+                    "an escape that is none of \\\" \\\\ \\/ \\b \\f \\n \\r \\t \\u....",
+                ));
+            }
+        };
+        run.push(byte);
+        Ok(())
+    }
+
+    /// A character by its number, or by the two halves that UTF-16 has for it.
+    fn unicode(&mut self, run: &mut Vec<u8>) -> Parsed<()> {
+        let mut units = [self.unit()?, 0];
+        let mut count = 1;
+        if (0xd800..0xdc00).contains(&units[0]) && self.takes(b'\\') && self.takes(b'u') {
+            units[1] = self.unit()?;
+            count = 2;
+        }
+        for character in char::decode_utf16(units.into_iter().take(count)) {
+            let character = character.map_err(|_| {
+                Fault::new("half of a character, as \\u...., without its other half")
+            })?;
+            run.extend_from_slice(character.encode_utf8(&mut [0; 4]).as_bytes());
+        }
+        Ok(())
+    }
+
+    fn unit(&mut self) -> Parsed<u16> {
+        let digits = self.line.get(self.at..self.at + 4);
+        let digits = digits.filter(|digits| digits.iter().all(u8::is_ascii_hexdigit));
+        let text = digits.and_then(|digits| str::from_utf8(digits).ok());
+        let unit = text.and_then(|text| u16::from_str_radix(text, 16).ok());
+        self.at += 4;
+        unit.ok_or_else(|| Fault::new("\\u and four hex digits expected"))
+    }
+
+    /// Passes over a value of JSON, whatever it is: up to the comma or the brace behind it.
+    fn pass_value(&mut self) -> Parsed<()> {
+        let mut depth = 0_usize;
+        let mut passed = Vec::new();
+        while let Some(byte) = self.peek() {
+            match byte {
+                b'"' => {
+                    passed.clear();
+                    self.string(&mut passed)?;
+                    continue;
+                }
+                b'[' | b'{' => depth += 1,
+                b',' | b'}' | b']' if depth == 0 => return Ok(()),
+                b']' | b'}' => depth -= 1,
+                _ => {}
+            }
+            self.at += 1;
+        }
+        Ok(())
+    }
+}
+
+fn ends_value(byte: u8) -> bool {
+    is_blank(byte) || matches!(byte, b',' | b']' | b'}')
+}
+
+fn kind_named(word: &[u8]) -> Parsed<(u8, &'static Shape)> {
+    let mut numbers = 1_u8..;
+    let mut kinds = KINDS.iter().zip(&mut numbers);
+    let found = kinds.find(|(shape, _)| shape.name.as_bytes() == word);
+    found
+        .map(|(shape, number)| (number, *shape))
+        .ok_or_else(|| Fault::new(format!("unknown kind {}", shown(word))))
+}
+
+/// The field of a name. The one behind the last one is tried first.
+fn named(shape: &Shape, name: &[u8], last: u8) -> Parsed<&'static Field> {
+    let fields: &'static [Field] = shape.fields;
+    let is = |field: &&'static Field| field.name.as_bytes() == name;
+    let next = fields.get(usize::from(last)).filter(is);
+    let found = next.or_else(|| fields.iter().find(is));
+    found.ok_or_else(|| unknown_field(shape, name))
+}
+
+fn unknown_field(shape: &Shape, name: &[u8]) -> Box<Fault> {
+    let names: Vec<&str> = shape.fields.iter().map(|field| field.name).collect();
+    let name = String::from_utf8_lossy(name.get(..64).unwrap_or(name));
+    Fault::new(format!(
+        "{} has no such field, but {}",
+        shape.name,
+        names.join(", ")
+    ))
+    .inside(&name)
+}
+
+/// Puts the fields of a run from a place on into the order of their tags; those of one
+/// tag stay in theirs.
+fn order(run: &mut Vec<u8>, start: usize) {
+    let unordered = run.split_off(start);
+    let mut fields: Vec<(u8, &[u8])> = Run(&unordered).collect();
+    fields.sort_by_key(|(tag, _)| *tag);
+    for (tag, value) in fields {
+        put(run, tag, value);
+    }
+}
+
+/// Puts a field behind a run. Its value is below 2^16 bytes.
+pub fn put(run: &mut Vec<u8>, tag: u8, value: &[u8]) {
+    let length = u16::try_from(value.len()).unwrap_or(u16::MAX);
+    run.push(tag);
+    run.extend_from_slice(&length.to_be_bytes());
+    run.extend_from_slice(value);
+}
+
+/// Cuts a value that is too long to one that still is, a text between two characters.
+fn clip(run: &mut Vec<u8>, start: usize, form: &Form) {
+    let mut end = start + MOST_VALUE;
+    if run.len() <= end {
+        return;
+    }
+    if matches!(form, Form::Text | Form::Key) {
+        let begins = |byte: &u8| byte & 0xc0 != 0x80;
+        let within = run.get(start..=end).unwrap_or_default();
+        let character = within.iter().rposition(begins).unwrap_or(0);
+        end = start + character;
+    }
+    run.truncate(end);
+}
+
+fn unhex(digits: &[u8], run: &mut Vec<u8>) -> Parsed<()> {
+    let wrong = || {
+        Fault::new(format!(
+            "pairs of hex digits expected, not {}",
+            shown(digits)
+        ))
+    };
+    if !digits.len().is_multiple_of(2) {
+        return Err(wrong());
+    }
+    for pair in digits.chunks_exact(2) {
+        let byte = pair.iter().try_fold(0, |byte, digit| {
+            char::from(*digit).to_digit(16).map(|half| byte << 4 | half)
+        });
+        let byte = byte.and_then(|byte| u8::try_from(byte).ok());
+        run.push(byte.ok_or_else(wrong)?);
+    }
+    Ok(())
+}
+
+/// What stands in a line, for a reason: quoted, and shortened.
+fn shown(bytes: &[u8]) -> String {
+    const MOST: usize = 40;
+    if bytes.is_empty() {
+        return "nothing".into();
+    }
+    let mut out = Vec::new();
+    let text = String::from_utf8_lossy(bytes.get(..MOST).unwrap_or(bytes));
+    crate::spell::string(&mut out, text.as_bytes());
+    let dots = if bytes.len() > MOST { ".." } else { "" };
+    format!("{}{dots}", String::from_utf8_lossy(&out))
+}
+
+/// The shape of a kind's number, which `line` gave.
+pub fn shape_of(number: u8) -> &'static Shape {
+    table::kind(number).unwrap_or(KINDS[0])
+}
