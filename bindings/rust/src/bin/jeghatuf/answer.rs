@@ -18,15 +18,18 @@ pub fn json(value: Json) -> Result<(), Failure> {
     lines([value.into_bytes()])
 }
 
-/// Prints lines.
+/// Prints lines, as long as somebody reads them.
 pub fn lines<T: AsRef<[u8]>>(lines: impl IntoIterator<Item = T>) -> Result<(), Failure> {
     let mut out = Output::standard();
     for line in lines {
         out.bytes.extend_from_slice(line.as_ref());
         out.bytes.push(b'\n');
-        out.spill()?;
+        match out.spill() {
+            Err(Failure::Closed) => return Ok(()),
+            spilled => spilled?,
+        }
     }
-    out.finish().map(|_| ())
+    out.finish()
 }
 
 /// The output of a command whose answer is bytes.
@@ -90,6 +93,6 @@ impl Records {
     }
 
     pub fn finish(self) -> Result<(), Failure> {
-        self.out.finish().map(|_| ())
+        self.out.finish()
     }
 }

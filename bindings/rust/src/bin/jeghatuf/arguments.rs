@@ -50,6 +50,7 @@ impl Choice {
 /// The words behind the command's name.
 pub struct Arguments {
     command: &'static str,
+    usage: &'static str,
     pub words: Vec<OsString>,
     choices: Vec<Choice>,
     capacity: usize,
@@ -61,11 +62,13 @@ impl Arguments {
     /// Takes the words, of a command that has these choices.
     pub fn take(
         command: &'static str,
+        usage: &'static str,
         allowed: &[Choice],
         mut words: impl Iterator<Item = OsString>,
     ) -> Result<Self, Failure> {
         let mut arguments = Self {
             command,
+            usage,
             words: Vec::new(),
             choices: Vec::new(),
             capacity: MOST_CAPACITY,
@@ -164,10 +167,11 @@ impl Arguments {
     /// The words, if they are so many.
     pub fn exactly<const N: usize>(&self) -> Result<[&OsStr; N], Failure> {
         let words: Vec<&OsStr> = self.words.iter().map(OsString::as_os_str).collect();
-        let found = words.len();
+        let found = words_of(words.len());
+        let usage = self.usage;
         words
             .try_into()
-            .map_err(|_| self.wrong(&format!("{N} expected, not {found}", N = words_of(N))))
+            .map_err(|_| self.wrong(&format!("{usage} expected, not {found}")))
     }
 
     /// A number among the words.

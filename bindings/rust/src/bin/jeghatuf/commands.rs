@@ -7,7 +7,7 @@ use crate::{answer, comparing, histories, kafka, lookups, make, runs, show};
 pub struct Command {
     pub name: &'static str,
     /// The words behind its name.
-    words: &'static str,
+    pub words: &'static str,
     about: &'static str,
     /// What else there is to know, and an example.
     more: &'static str,

@@ -2,7 +2,7 @@
 
 use std::ffi::OsStr;
 
-use jeghatuf::{Comparison, Image, Refusal, compare as compare_runs};
+use jeghatuf::{Comparison, Image, Kind, Refusal, compare as compare_runs};
 
 use crate::answer;
 use crate::arguments::Arguments;
@@ -49,8 +49,7 @@ pub fn diff(arguments: &Arguments) -> Outcome {
 
 pub fn compare(arguments: &Arguments) -> Outcome {
     let [first, second] = both(arguments)?;
-    let [one, other] = [Input::open(first)?, Input::open(second)?];
-    let (one, other) = (one.whole()?, other.whole()?);
+    let (one, other) = (log(first)?, log(second)?);
     let compared = progress::timed("comparing", || {
         compare_runs(arguments.capacity(), &one, &other)
     });
@@ -61,7 +60,21 @@ pub fn compare(arguments: &Arguments) -> Outcome {
     } else {
         answer::lines(parting.lines()?)?;
     }
-    Ok(Status::refused_if(parting.is_parted))
+    Ok(Status::refused_if(
+        parting.is_parted || parting.is_refused(),
+    ))
+}
+
+/// The bytes of a log. A snapshot is none: all of it would be refused at its start.
+fn log(file: &OsStr) -> Result<Vec<u8>, Failure> {
+    let input = Input::open(file)?;
+    let name = input.name.clone();
+    let run = input.whole()?;
+    if run.first() == Some(&Kind::LogOffset.number()) {
+        let line = "begins with a log offset, as a snapshot does; for snapshots take diff";
+        return Err(Failure::unusable(name, line));
+    }
+    Ok(run)
 }
 
 /// How a run stands at a record.
@@ -111,6 +124,14 @@ impl Parting {
         })
     }
 
+    /// Whether a run was refused, so that what is behind it was not compared.
+    fn is_refused(&self) -> bool {
+        let both = [&self.first, &self.second];
+        both.iter().any(
+            |standing| matches!(standing, Standing::Record { refusal, .. } if refusal.is_some()),
+        )
+    }
+
     fn differences(&self) -> Result<[Vec<u8>; 2], Failure> {
         let [first, second] = &self.images;
         Ok([snapshot(first)?, snapshot(second)?])
@@ -140,11 +161,9 @@ impl Parting {
         let found = found.iter().filter(|difference| !difference.is_offset());
         let found: Vec<String> = found.map(Difference::words).collect();
         lines.push(match found.len() {
-            0 => "behind it no entry differs".into(),
-            count => format!(
-                "behind it {} differ:",
-                words::count(count as u64, "entry", "entries")
-            ),
+            0 => "then no entry differs".into(),
+            1 => "then 1 entry differs:".into(),
+            count => format!("then {count} entries differ:"),
         });
         lines.extend(found);
         Ok(lines)

@@ -23,11 +23,30 @@ pub fn explain(kind: u8, shape: &Shape, run: &[u8], number: u8) -> Box<Fault> {
             continue;
         };
         let index = given.iter().filter(|(before, _)| *before == tag).count();
-        return inner(kind, shape, given, field, value)
-            .unwrap_or_else(|| said(field, value, number))
-            .inside(&place(field, index));
+        let fault = if is_one_more(kind, shape, given, (tag, value), number) {
+            said(field, value, number)
+        } else {
+            inner(kind, shape, given, field, value).unwrap_or_else(|| said(field, value, number))
+        };
+        return fault.inside(&place(field, index));
     }
     Fault::new(words(number))
+}
+
+/// Whether an element that is over a limit is taken without those before it: then their
+/// count is what is refused.
+fn is_one_more(
+    kind: u8,
+    shape: &Shape,
+    given: &[(u8, &[u8])],
+    (tag, value): (u8, &[u8]),
+    number: u8,
+) -> bool {
+    let others = given.iter().copied().filter(|(before, _)| *before != tag);
+    let others: Vec<(u8, &[u8])> = others.collect();
+    Refusal::from_number(number) == Refusal::OverALimit
+        && others.len() < given.len()
+        && attempt(kind, shape, &others, tag, value).is_ok()
 }
 
 /// The field of an element that is refused.

@@ -2,7 +2,7 @@
 
 use std::ffi::OsStr;
 
-use jeghatuf::{LENGTH_LIMIT, RECORD_LIMIT, Refusal, history};
+use jeghatuf::{LENGTH_LIMIT, RECORD_LIMIT, Refusal, calls, history};
 
 use crate::answer;
 use crate::arguments::{Arguments, Choice};
@@ -31,7 +31,7 @@ pub fn histories(arguments: &Arguments) -> Outcome {
     // a record more than there may be is refused unread
     window.fill((RECORD_LIMIT + 1) * MOST_HEADED)?;
     let records = window.rest();
-    let refused = |refusal| Failure::refused(window.name(), refusal);
+    let refused = |refusal| refused(window.name(), records, refusal);
     match number {
         Some(number) => give(arguments, &history(records, number).map_err(refused)?)?,
         None => list(arguments, records).map_err(|failure| match failure {
@@ -40,6 +40,24 @@ pub fn histories(arguments: &Arguments) -> Outcome {
         })?,
     }
     Ok(Status::Good)
+}
+
+/// A refusal: of a record, at its place, of how many there are, or of the number.
+fn refused(file: &str, records: &[u8], refusal: Refusal) -> Failure {
+    let read: usize = pieces(records)
+        .iter()
+        .take(RECORD_LIMIT)
+        .map(|record| record.len())
+        .sum();
+    let rest = records.get(read..).unwrap_or_default();
+    let is_read = rest.is_empty() || calls::read(rest).is_ok();
+    match refusal {
+        Refusal::OverALimit if is_read => {
+            Failure::Refused(format!("{file}: 5, 1 to {RECORD_LIMIT} records are taken"))
+        }
+        Refusal::PastTheLast => Failure::refused(file, refusal),
+        _ => Failure::at(file, read as u64, refusal),
+    }
 }
 
 /// Why there is no list.

@@ -15,13 +15,13 @@ use crate::source::{Source, pieces};
 use crate::spell::{self, Style};
 use crate::words;
 
-/// What a lookup writes, if it finds something.
+/// What a lookup by a word writes, if it finds something. What it refuses is the word.
 fn found(
-    source: &Source,
+    word: &OsStr,
     lookup: impl Fn(&mut [u8]) -> calls::Answer,
 ) -> Result<Option<Vec<u8>>, Failure> {
     let mut out = vec![0; MOST_RECORD];
-    let refused = |number| source.refused(Refusal::from_number(number));
+    let refused = |number| Failure::refused(&shown(word), Refusal::from_number(number));
     let length = lookup(&mut out).map_err(refused)?;
     out.truncate(length);
     Ok(Some(out).filter(|record| !record.is_empty()))
@@ -62,7 +62,7 @@ pub fn topic(arguments: &Arguments) -> Outcome {
     };
     let source = Source::open(file, arguments.capacity())?;
     let image = source.image.as_bytes();
-    let record = found(&source, |out| match &id {
+    let record = found(word, |out| match &id {
         Some(id) => calls::topic_by_id(image, id, out),
         None => calls::topic(image, word.as_encoded_bytes(), out),
     })?;
@@ -134,7 +134,7 @@ pub fn partition(arguments: &Arguments) -> Outcome {
     let number: i32 = arguments.number(number, "partition's number")?;
     let source = Source::open(file, arguments.capacity())?;
     let image = source.image.as_bytes();
-    let record = found(&source, |out| {
+    let record = found(name, |out| {
         calls::partition(image, name.as_encoded_bytes(), number, out)
     })?;
     let none = format!("no {}", words::partition(number, &name.to_string_lossy()));
@@ -144,12 +144,12 @@ pub fn partition(arguments: &Arguments) -> Outcome {
 
 pub fn broker(arguments: &Arguments) -> Outcome {
     let [node, file] = arguments.exactly()?;
-    let node: u64 = arguments.number(node, "broker's node")?;
+    let number: u64 = arguments.number(node, "broker's node")?;
     let source = Source::open(file, arguments.capacity())?;
-    let record = found(&source, |out| {
-        calls::broker(source.image.as_bytes(), node, out)
+    let record = found(node, |out| {
+        calls::broker(source.image.as_bytes(), number, out)
     })?;
-    let none = format!("no broker {node}");
+    let none = format!("no broker {number}");
     give(arguments, "broker", record.as_deref(), &none)?;
     Ok(source.status)
 }
@@ -162,7 +162,7 @@ pub fn freeze(arguments: &Arguments) -> Outcome {
         return Ok(Status::Good);
     }
     let source = Source::open(file, arguments.capacity())?;
-    let record = found(&source, |out| {
+    let record = found(name, |out| {
         calls::freeze(source.image.as_bytes(), name.as_encoded_bytes(), out)
     })?;
     freeze_words(arguments, name, record.as_deref())?;
@@ -180,7 +180,7 @@ fn freeze_of_log(name: &OsStr, file: &OsStr) -> Result<Option<Vec<u8>>, Failure>
     if let Err(number) = answer {
         let refusal = Refusal::from_number(number);
         return Err(match value {
-            u64::MAX => Failure::refused(&file, refusal),
+            u64::MAX => Failure::refused(&shown(name), refusal),
             place => Failure::at(&file, place, refusal),
         });
     }

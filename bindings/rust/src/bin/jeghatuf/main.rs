@@ -25,6 +25,7 @@ mod show;
 mod source;
 mod spell;
 mod table;
+mod values;
 mod words;
 
 use std::env;
@@ -56,7 +57,7 @@ fn run(mut words: impl Iterator<Item = OsString>) -> Outcome {
         }
         name => {
             let command = Command::named(name).ok_or_else(|| unknown(name))?;
-            let arguments = Arguments::take(command.name, command.choices, words)?;
+            let arguments = Arguments::take(command.name, command.words, command.choices, words)?;
             match arguments.is_help {
                 true => command.help(),
                 false => (command.run)(&arguments),

@@ -14,7 +14,6 @@ const ROOM: usize = 1 << 16;
 /// An output with what was not written yet.
 pub struct Output {
     pub bytes: Vec<u8>,
-    written: u64,
     target: Target,
 }
 
@@ -45,7 +44,6 @@ impl Output {
     fn to(target: Target) -> Self {
         Self {
             bytes: Vec::with_capacity(2 * ROOM),
-            written: 0,
             target,
         }
     }
@@ -101,7 +99,6 @@ impl Output {
 
     /// Writes what was gathered.
     pub fn flush(&mut self) -> Result<(), Failure> {
-        self.written += self.bytes.len() as u64;
         match &mut self.target {
             Target::Standard => {
                 let mut out = io::stdout().lock();
@@ -121,14 +118,18 @@ impl Output {
         Ok(())
     }
 
-    /// Writes the rest, and puts a file in its place. How many bytes it has.
-    pub fn finish(mut self) -> Result<u64, Failure> {
-        self.flush()?;
+    /// Writes the rest, and puts a file in its place. That nobody reads the rest is no
+    /// fault.
+    pub fn finish(mut self) -> Result<(), Failure> {
+        match self.flush() {
+            Err(Failure::Closed) => return Ok(()),
+            flushed => flushed?,
+        }
         if let Target::File(draft) = &mut self.target {
             let done = draft.settle();
             done.map_err(|fault| Failure::unusable(&draft.name, fault))?;
         }
-        Ok(self.written)
+        Ok(())
     }
 }
 

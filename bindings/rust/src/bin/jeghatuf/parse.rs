@@ -4,10 +4,7 @@
 use crate::run::Run;
 use crate::spell::Style;
 use crate::table::{self, Field, Form, KINDS, Presence, Shape};
-
-/// Above every limit of a value. A longer one is cut to it, so that its length fits two
-/// bytes, and the library refuses it as it would refuse the whole.
-const MOST_VALUE: usize = 4_096;
+use crate::values::clip;
 
 /// What is wrong with a line: in which field, if it is in one, and why.
 #[derive(Debug, PartialEq, Eq)]
@@ -35,7 +32,7 @@ impl Fault {
     }
 }
 
-type Parsed<T> = Result<T, Box<Fault>>;
+pub type Parsed<T> = Result<T, Box<Fault>>;
 
 /// Puts the fields of a line into an empty run, and gives the kind's number.
 pub fn line(line: &[u8], style: Style, run: &mut Vec<u8>) -> Parsed<u8> {
@@ -67,14 +64,15 @@ fn is_blank(byte: u8) -> bool {
     matches!(byte, b' ' | b'\t' | b'\r' | b'\n')
 }
 
-struct Parser<'a> {
-    line: &'a [u8],
-    at: usize,
-    style: Style,
+/// A line, and the byte in it that comes next.
+pub struct Parser<'a> {
+    pub line: &'a [u8],
+    pub at: usize,
+    pub style: Style,
 }
 
 impl<'a> Parser<'a> {
-    fn peek(&self) -> Option<u8> {
+    pub fn peek(&self) -> Option<u8> {
         self.line.get(self.at).copied()
     }
 
@@ -85,13 +83,13 @@ impl<'a> Parser<'a> {
     }
 
     /// Steps over a byte, if it is the next one.
-    fn takes(&mut self, byte: u8) -> bool {
+    pub fn takes(&mut self, byte: u8) -> bool {
         let is = self.peek() == Some(byte);
         self.at += usize::from(is);
         is
     }
 
-    fn expect(&mut self, byte: u8) -> Parsed<()> {
+    pub fn expect(&mut self, byte: u8) -> Parsed<()> {
         if self.takes(byte) {
             return Ok(());
         }
@@ -103,12 +101,12 @@ impl<'a> Parser<'a> {
     }
 
     /// What comes next, shortened, for a reason.
-    fn rest(&self) -> String {
+    pub fn rest(&self) -> String {
         shown(self.line.get(self.at..).unwrap_or_default())
     }
 
     /// The bytes up to the first one that ends a word.
-    fn word(&mut self, ends: impl Fn(u8) -> bool) -> &'a [u8] {
+    pub fn word(&mut self, ends: impl Fn(u8) -> bool) -> &'a [u8] {
         let rest = self.line.get(self.at..).unwrap_or_default();
         let end = rest.iter().position(|byte| ends(*byte));
         let word = rest.get(..end.unwrap_or(rest.len())).unwrap_or_default();
@@ -117,7 +115,7 @@ impl<'a> Parser<'a> {
     }
 
     /// A value without blanks: bare in text, a string without escapes in JSON.
-    fn bare(&mut self) -> Parsed<&'a [u8]> {
+    pub fn bare(&mut self) -> Parsed<&'a [u8]> {
         if self.style == Style::Text {
             return Ok(self.word(ends_value));
         }
@@ -128,8 +126,10 @@ impl<'a> Parser<'a> {
     }
 
     fn kind(&mut self) -> Parsed<(u8, &'static Shape)> {
-        let word = self.word(is_blank);
-        kind_named(word)
+        if self.peek() == Some(b'{') {
+            return Err(Fault::new("a line of JSON, which --json reads"));
+        }
+        kind_named(self.word(is_blank))
     }
 
     /// The kind of an object, wherever its member stands. The parser is left behind the
@@ -170,11 +170,13 @@ impl<'a> Parser<'a> {
 
     fn field_name(&mut self) -> Parsed<&'a [u8]> {
         if self.style == Style::Text {
+            let start = self.at;
             let name = self.word(|byte| byte == b'=' || ends_value(byte));
             if self.takes(b'=') {
                 return Ok(name);
             }
-            let found = shown(name);
+            self.at = start;
+            let found = self.rest();
             return Err(Fault::new(format!("name=value expected, not {found}")));
         }
         let name = self.bare()?;
@@ -312,191 +314,6 @@ impl<'a> Parser<'a> {
         }
     }
 
-    /// A whole number between two ends, in so many bytes.
-    fn number(&mut self, least: i128, most: i128, width: usize, run: &mut Vec<u8>) -> Parsed<()> {
-        let word = self.word(ends_value);
-        let (is_negative, digits) = match word {
-            [b'-', digits @ ..] => (true, digits),
-            digits => (false, digits),
-        };
-        if digits.is_empty() || !digits.iter().all(u8::is_ascii_digit) {
-            return Err(Fault::new(format!(
-                "a whole number expected, not {}",
-                shown(word)
-            )));
-        }
-        let size = digits.iter().try_fold(0_u64, |number, digit| {
-            number.checked_mul(10)?.checked_add(u64::from(digit - b'0'))
-        });
-        // no field holds what a u64 does not
-        let size = size.map_or(i128::MAX, i128::from);
-        let number = if is_negative { -size } else { size };
-        if !(least..=most).contains(&number) {
-            let word = shown(word);
-            return Err(Fault::new(format!(
-                "{word} is out of range, {least} to {most}"
-            )));
-        }
-        let bytes = number.to_be_bytes();
-        run.extend_from_slice(bytes.get(bytes.len() - width..).unwrap_or_default());
-        Ok(())
-    }
-
-    /// A decimal that a double holds, or a double's bits.
-    fn double(&mut self, run: &mut Vec<u8>) -> Parsed<()> {
-        let word = match self.peek() {
-            Some(b'"') if self.style == Style::Json => self.bare()?,
-            _ => self.word(ends_value),
-        };
-        let wrong = || {
-            Fault::new(format!(
-                "a number expected, or 0x and 16 hex digits, not {}",
-                shown(word)
-            ))
-        };
-        if let Some(digits) = word.strip_prefix(b"0x") {
-            return match digits.len() {
-                16 => unhex(digits, run),
-                _ => Err(wrong()),
-            };
-        }
-        let is_decimal = |byte: &u8| matches!(byte, b'0'..=b'9' | b'-' | b'+' | b'.' | b'e' | b'E');
-        if !word.iter().all(is_decimal) {
-            return Err(wrong());
-        }
-        let text = str::from_utf8(word).map_err(|_| wrong())?;
-        let double: f64 = text.parse().map_err(|_| wrong())?;
-        if double.is_infinite() {
-            return Err(Fault::new(format!("{text} is out of range of a double")));
-        }
-        run.extend_from_slice(&double.to_be_bytes());
-        Ok(())
-    }
-
-    fn id(&mut self, run: &mut Vec<u8>) -> Parsed<()> {
-        let word = self.bare()?;
-        if word.len() != 32 {
-            return Err(Fault::new(format!(
-                "32 hex digits expected, not {}",
-                shown(word)
-            )));
-        }
-        unhex(word, run)
-    }
-
-    fn bytes(&mut self, run: &mut Vec<u8>) -> Parsed<()> {
-        let word = self.bare()?;
-        let digits = match self.style {
-            Style::Json => Some(word),
-            Style::Text => word.strip_prefix(b"hex:"),
-        };
-        let digits = digits.ok_or_else(|| {
-            Fault::new(format!("hex: and hex digits expected, not {}", shown(word)))
-        })?;
-        unhex(digits, run)
-    }
-
-    fn bool(&mut self, run: &mut Vec<u8>) -> Parsed<()> {
-        let byte = match self.word(ends_value) {
-            b"false" => 0,
-            b"true" => 1,
-            word => {
-                return Err(Fault::new(format!(
-                    "true or false expected, not {}",
-                    shown(word)
-                )));
-            }
-        };
-        run.push(byte);
-        Ok(())
-    }
-
-    fn choice(&mut self, names: &[&str], run: &mut Vec<u8>) -> Parsed<()> {
-        let word = self.bare()?;
-        let index = names.iter().position(|name| name.as_bytes() == word);
-        let index = index.and_then(|index| u8::try_from(index).ok());
-        let index = index.ok_or_else(|| {
-            let (found, names) = (shown(word), names.join(", "));
-            Fault::new(format!("{found} is none of {names}"))
-        })?;
-        run.push(index);
-        Ok(())
-    }
-
-    fn string(&mut self, run: &mut Vec<u8>) -> Parsed<()> {
-        if !self.takes(b'"') {
-            let found = self.rest();
-            return Err(Fault::new(format!(
-                "a string in double quotes expected, not {found}"
-            )));
-        }
-        loop {
-            let plain = self.word(|byte| matches!(byte, b'"' | b'\\' | 0..=0x1f));
-            run.extend_from_slice(plain);
-            match self.peek() {
-                None => return Err(Fault::new("the string has no end")),
-                Some(b'"') => {
-                    self.at += 1;
-                    return Ok(());
-                }
-                Some(b'\\') => self.escape(run)?,
-                Some(_) => {
-                    return Err(Fault::new(
-                        "a control character stands in the string; it goes as \\n, \\t or \\u00..",
-                    ));
-                }
-            }
-        }
-    }
-
-    fn escape(&mut self, run: &mut Vec<u8>) -> Parsed<()> {
-        self.at += 1;
-        let letter = self.peek();
-        self.at += 1;
-        let byte = match letter {
-            Some(byte @ (b'"' | b'\\' | b'/')) => byte,
-            Some(b'n') => b'\n',
-            Some(b'r') => b'\r',
-            Some(b't') => b'\t',
-            Some(b'b') => 0x08,
-            Some(b'f') => 0x0c,
-            Some(b'u') => return self.unicode(run),
-            _ => {
-                return Err(Fault::new(
-                    "an escape that is none of \\\" \\\\ \\/ \\b \\f \\n \\r \\t \\u....",
-                ));
-            }
-        };
-        run.push(byte);
-        Ok(())
-    }
-
-    /// A character by its number, or by the two halves that UTF-16 has for it.
-    fn unicode(&mut self, run: &mut Vec<u8>) -> Parsed<()> {
-        let mut units = [self.unit()?, 0];
-        let mut count = 1;
-        if (0xd800..0xdc00).contains(&units[0]) && self.takes(b'\\') && self.takes(b'u') {
-            units[1] = self.unit()?;
-            count = 2;
-        }
-        for character in char::decode_utf16(units.into_iter().take(count)) {
-            let character = character.map_err(|_| {
-                Fault::new("half of a character, as \\u...., without its other half")
-            })?;
-            run.extend_from_slice(character.encode_utf8(&mut [0; 4]).as_bytes());
-        }
-        Ok(())
-    }
-
-    fn unit(&mut self) -> Parsed<u16> {
-        let digits = self.line.get(self.at..self.at + 4);
-        let digits = digits.filter(|digits| digits.iter().all(u8::is_ascii_hexdigit));
-        let text = digits.and_then(|digits| str::from_utf8(digits).ok());
-        let unit = text.and_then(|text| u16::from_str_radix(text, 16).ok());
-        self.at += 4;
-        unit.ok_or_else(|| Fault::new("\\u and four hex digits expected"))
-    }
-
     /// Passes over a value of JSON, whatever it is: up to the comma or the brace behind it.
     fn pass_value(&mut self) -> Parsed<()> {
         let mut depth = 0_usize;
@@ -519,7 +336,7 @@ impl<'a> Parser<'a> {
     }
 }
 
-fn ends_value(byte: u8) -> bool {
+pub fn ends_value(byte: u8) -> bool {
     is_blank(byte) || matches!(byte, b',' | b']' | b'}')
 }
 
@@ -571,43 +388,8 @@ pub fn put(run: &mut Vec<u8>, tag: u8, value: &[u8]) {
     run.extend_from_slice(value);
 }
 
-/// Cuts a value that is too long to one that still is, a text between two characters.
-fn clip(run: &mut Vec<u8>, start: usize, form: &Form) {
-    let mut end = start + MOST_VALUE;
-    if run.len() <= end {
-        return;
-    }
-    if matches!(form, Form::Text | Form::Key) {
-        let begins = |byte: &u8| byte & 0xc0 != 0x80;
-        let within = run.get(start..=end).unwrap_or_default();
-        let character = within.iter().rposition(begins).unwrap_or(0);
-        end = start + character;
-    }
-    run.truncate(end);
-}
-
-fn unhex(digits: &[u8], run: &mut Vec<u8>) -> Parsed<()> {
-    let wrong = || {
-        Fault::new(format!(
-            "pairs of hex digits expected, not {}",
-            shown(digits)
-        ))
-    };
-    if !digits.len().is_multiple_of(2) {
-        return Err(wrong());
-    }
-    for pair in digits.chunks_exact(2) {
-        let byte = pair.iter().try_fold(0, |byte, digit| {
-            char::from(*digit).to_digit(16).map(|half| byte << 4 | half)
-        });
-        let byte = byte.and_then(|byte| u8::try_from(byte).ok());
-        run.push(byte.ok_or_else(wrong)?);
-    }
-    Ok(())
-}
-
 /// What stands in a line, for a reason: quoted, and shortened.
-fn shown(bytes: &[u8]) -> String {
+pub fn shown(bytes: &[u8]) -> String {
     const MOST: usize = 40;
     if bytes.is_empty() {
         return "nothing".into();

@@ -251,7 +251,8 @@ pub fn view(arguments: &Arguments) -> Outcome {
     // what a viewer sees is shorter than the image
     let mut out = vec![0; arguments.capacity()];
     let written = calls::view_snapshot(source.image.as_bytes(), &list, &mut out);
-    let written = written.map_err(|number| source.refused(Refusal::from_number(number)))?;
+    let refused = |number| Failure::refused("the prefixes", Refusal::from_number(number));
+    let written = written.map_err(refused)?;
     out.truncate(written);
     give(arguments, &out)?;
     Ok(source.status)

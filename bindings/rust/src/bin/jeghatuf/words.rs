@@ -5,10 +5,11 @@ use jeghatuf::{DEFAULT_NODE, Fields, PatternType, Record};
 
 use crate::spell;
 
-/// A text without what could act on a terminal: quoted where there is such a thing.
+/// A text without what could act on a terminal: quoted where there is such a thing, or
+/// nothing.
 pub fn plain(text: &str) -> String {
     let quoted = quoted(text);
-    if quoted.len() == text.len() + 2 {
+    if quoted.len() == text.len() + 2 && !text.is_empty() {
         return text.into();
     }
     quoted

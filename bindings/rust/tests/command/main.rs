@@ -1,0 +1,11 @@
+//! The command `jeghatuf`: its table of fields, and that `show` and `make` undo each other.
+
+mod draw;
+mod format;
+mod names;
+mod program;
+mod undone;
+
+#[path = "../../src/bin/jeghatuf/table.rs"]
+#[allow(dead_code)]
+mod table;
