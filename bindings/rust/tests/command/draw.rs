@@ -1,5 +1,7 @@
 //! Records drawn by the table of docs/FORMAT.md, the same ones in every run.
 
+use std::collections::BTreeSet;
+
 use crate::format::Row;
 
 /// Numbers that look drawn (splitmix64).
@@ -99,7 +101,7 @@ impl Draw {
         let start = format!("{kind} ");
         let shape = self.rows.iter().find(|row| row.shape.starts_with(&start));
         let shape = shape.unwrap().shape.clone();
-        let body = self.run(&shape, &mut None);
+        let body = self.run(&shape, &[]);
         let length = u16::try_from(body.len()).unwrap();
         let mut record = vec![u8::try_from(kind).unwrap()];
         record.extend(length.to_be_bytes());
@@ -107,26 +109,23 @@ impl Draw {
         record
     }
 
-    /// A run of a shape's fields. A map's key is above the one before it.
-    fn run(&mut self, shape: &str, key: &mut Option<Vec<u8>>) -> Vec<u8> {
-        let of_shape = |row: &&Row| row.shape == shape || row.shape.ends_with(&format!(" {shape}"));
-        let rows: Vec<Row> = self.rows.iter().filter(of_shape).cloned().collect();
+    fn rows_of(&self, shape: &str) -> Vec<Row> {
+        let of_kind = format!(" {shape}");
+        let is_of = |row: &&Row| row.shape == shape || row.shape.ends_with(&of_kind);
+        self.rows.iter().filter(is_of).cloned().collect()
+    }
+
+    /// A run of a shape's fields, with its key if it has one.
+    fn run(&mut self, shape: &str, key: &[u8]) -> Vec<u8> {
         let mut run = Vec::new();
-        for row in rows {
-            let count = match row.presence.as_str() {
-                "required" => 1,
-                "optional" => self.below(2),
-                many => {
-                    let limit = many.strip_prefix("up to ").unwrap().parse().unwrap();
-                    self.count(limit)
-                }
+        for row in self.rows_of(shape) {
+            let values = match row.presence.strip_prefix("up to ") {
+                Some(limit) => self.elements(&row.form, limit.parse().unwrap()),
+                None if row.form == "key" => vec![key.to_vec()],
+                None if row.presence == "optional" && self.once_in(2) => Vec::new(),
+                None => vec![self.value(&row)],
             };
-            let mut element_key = None;
-            for _ in 0..count {
-                let value = match row.form.as_str() {
-                    "key" => self.key(row.size.unwrap(), key),
-                    _ => self.value(&row, &mut element_key),
-                };
+            for value in values {
                 run.push(row.tag);
                 run.extend(u16::try_from(value.len()).unwrap().to_be_bytes());
                 run.extend(value);
@@ -135,7 +134,19 @@ impl Draw {
         run
     }
 
-    fn value(&mut self, row: &Row, key: &mut Option<Vec<u8>>) -> Vec<u8> {
+    /// Up to so many elements of a shape, with ascending keys if it is a map's.
+    fn elements(&mut self, shape: &str, limit: usize) -> Vec<Vec<u8>> {
+        let count = self.count(limit);
+        let rows = self.rows_of(shape);
+        if rows[0].form == "key" {
+            let size = rows[0].size.unwrap();
+            let keys: BTreeSet<Vec<u8>> = (0..count).map(|_| self.text(size)).collect();
+            return keys.iter().map(|key| self.run(shape, key)).collect();
+        }
+        (0..count).map(|_| self.run(shape, &[])).collect()
+    }
+
+    fn value(&mut self, row: &Row) -> Vec<u8> {
         let size = row.size.unwrap_or(0);
         match row.form.as_str() {
             "bool" | "enum" => vec![self.below(size) as u8],
@@ -156,7 +167,7 @@ impl Draw {
                 0 => (-1_i64).to_be_bytes().into(),
                 _ => (self.number() >> 1).to_be_bytes().into(),
             },
-            shape => self.run(shape, key),
+            shape => self.run(shape, &[]),
         }
     }
 
@@ -236,34 +247,5 @@ impl Draw {
             0 => char::from_u32(self.below(0x11_0000) as u32).unwrap_or('x'),
             _ => CHARACTERS[self.below(CHARACTERS.len())],
         }
-    }
-
-    /// A text above the key before it: one that begins with a greater number.
-    fn key(&mut self, limit: usize, before: &mut Option<Vec<u8>>) -> Vec<u8> {
-        let mut drawn = self.text(limit);
-        if let Some(before) = before.as_ref().filter(|before| drawn <= **before) {
-            let number = match before.strip_prefix(b"\xf4\x8f\xbf\xbf") {
-                Some(rest) => u32::from_be_bytes([0, rest[0] - 32, rest[1] - 32, rest[2] - 32]),
-                None => 0,
-            };
-            let [_, high, middle, low] = number.to_be_bytes();
-            let (low, carry) = if low < 90 { (low + 1, 0) } else { (0, 1) };
-            drawn = [
-                b"\xf4\x8f\xbf\xbf",
-                &[high + 32, middle + carry + 32, low + 32][..],
-            ]
-            .concat();
-            drawn.extend(self.text(limit - 8));
-            trim(&mut drawn, limit);
-        }
-        *before = Some(drawn.clone());
-        drawn
-    }
-}
-
-/// Cuts a text to so many bytes, between two characters.
-fn trim(text: &mut Vec<u8>, limit: usize) {
-    while text.len() > limit || str::from_utf8(text).is_err() {
-        text.pop();
     }
 }

@@ -54,7 +54,7 @@ fn all_stored_vectors_are_shown_and_made_again() {
             }
         }
     }
-    assert!(count > 10_000, "{count} records");
+    assert!(count > 7_000, "{count} records");
     fs::write(path("stored.records"), &records).unwrap();
     assert_undone("stored", &[]);
     fs::write(path("stored_json.records"), &records).unwrap();
