@@ -4,12 +4,12 @@ use jeghatuf::{Refusal, calls, kafka};
 
 use crate::answer::{Records, bytes_output};
 use crate::arguments::{Arguments, Choice};
+use crate::bytes::hex;
 use crate::failure::{Failure, Outcome, Status, say};
 use crate::input::{Input, Window};
 use crate::json::Json;
 use crate::output::Output;
 use crate::source::MOST_HEADED;
-use crate::spell;
 use crate::words;
 
 pub fn from_kafka(arguments: &Arguments) -> Outcome {
@@ -107,7 +107,7 @@ impl Writer {
     fn put(&self, out: &mut Output, bytes: &[u8]) -> Result<(), Failure> {
         if self.is_hex {
             let mut digits = Vec::new();
-            spell::hex(&mut digits, bytes);
+            hex(&mut digits, bytes);
             let digits = String::from_utf8_lossy(&digits);
             let line = Json::object([("kafka", Json::text(&digits))]);
             out.bytes.extend(line.into_bytes());

@@ -5,6 +5,7 @@
 
 mod answer;
 mod arguments;
+mod bytes;
 mod commands;
 mod comparing;
 mod differences;

@@ -1,6 +1,7 @@
 //! A line, as text or as JSON, back to a kind and a run of fields. What cannot be put
 //! into bytes at all is refused here; what a field may hold is the library's to judge.
 
+use crate::bytes::Set;
 use crate::run::Run;
 use crate::spell::Style;
 use crate::table::{self, Field, Form, KINDS, Presence, Shape};
@@ -56,13 +57,15 @@ pub fn line(line: &[u8], style: Style, run: &mut Vec<u8>) -> Parsed<u8> {
 
 /// Whether a line of text is left out: it is blank, or a remark.
 pub fn is_skipped(line: &[u8]) -> bool {
-    let mut bytes = line.iter().skip_while(|byte| is_blank(**byte));
+    let mut bytes = line.iter().skip_while(|byte| BLANKS.has(**byte));
     matches!(bytes.next(), None | Some(b'#'))
 }
 
-fn is_blank(byte: u8) -> bool {
-    matches!(byte, b' ' | b'\t' | b'\r' | b'\n')
-}
+static BLANKS: Set = Set::of(b" \t\r\n");
+static NAME_ENDS: Set = Set::of(b"= \t\r\n,]}");
+static BARE_ENDS: Set = Set::of(b"\"\\");
+/// What ends a value that is no string.
+pub static VALUE_ENDS: Set = Set::of(b" \t\r\n,]}");
 
 /// A line, and the byte in it that comes next.
 pub struct Parser<'a> {
@@ -77,7 +80,7 @@ impl<'a> Parser<'a> {
     }
 
     fn blanks(&mut self) {
-        while self.peek().is_some_and(is_blank) {
+        while self.peek().is_some_and(|byte| BLANKS.has(byte)) {
             self.at += 1;
         }
     }
@@ -106,10 +109,9 @@ impl<'a> Parser<'a> {
     }
 
     /// The bytes up to the first one that ends a word.
-    pub fn word(&mut self, ends: impl Fn(u8) -> bool) -> &'a [u8] {
+    pub fn word(&mut self, ends: &Set) -> &'a [u8] {
         let rest = self.line.get(self.at..).unwrap_or_default();
-        let end = rest.iter().position(|byte| ends(*byte));
-        let word = rest.get(..end.unwrap_or(rest.len())).unwrap_or_default();
+        let word = rest.get(..ends.first_in(rest)).unwrap_or_default();
         self.at += word.len();
         word
     }
@@ -117,10 +119,10 @@ impl<'a> Parser<'a> {
     /// A value without blanks: bare in text, a string without escapes in JSON.
     pub fn bare(&mut self) -> Parsed<&'a [u8]> {
         if self.style == Style::Text {
-            return Ok(self.word(ends_value));
+            return Ok(self.word(&VALUE_ENDS));
         }
         self.expect(b'"')?;
-        let word = self.word(|byte| matches!(byte, b'"' | b'\\'));
+        let word = self.word(&BARE_ENDS);
         self.expect(b'"')?;
         Ok(word)
     }
@@ -129,7 +131,7 @@ impl<'a> Parser<'a> {
         if self.peek() == Some(b'{') {
             return Err(Fault::new("a line of JSON, which --json reads"));
         }
-        kind_named(self.word(is_blank))
+        kind_named(self.word(&BLANKS))
     }
 
     /// The kind of an object, wherever its member stands. The parser is left behind the
@@ -171,7 +173,7 @@ impl<'a> Parser<'a> {
     fn field_name(&mut self) -> Parsed<&'a [u8]> {
         if self.style == Style::Text {
             let start = self.at;
-            let name = self.word(|byte| byte == b'=' || ends_value(byte));
+            let name = self.word(&NAME_ENDS);
             if self.takes(b'=') {
                 return Ok(name);
             }
@@ -242,7 +244,7 @@ impl<'a> Parser<'a> {
             Presence::Optional if self.is_null() => {}
             _ => self.tagged(field, run)?,
         }
-        let follows = self.peek().filter(|byte| !ends_value(*byte));
+        let follows = self.peek().filter(|byte| !VALUE_ENDS.has(*byte));
         if follows.is_some() {
             return Err(Fault::new(format!(
                 "{} stands behind the value",
@@ -334,10 +336,6 @@ impl<'a> Parser<'a> {
         }
         Ok(())
     }
-}
-
-pub fn ends_value(byte: u8) -> bool {
-    is_blank(byte) || matches!(byte, b',' | b']' | b'}')
 }
 
 fn kind_named(word: &[u8]) -> Parsed<(u8, &'static Shape)> {

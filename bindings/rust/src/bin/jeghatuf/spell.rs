@@ -1,5 +1,6 @@
 //! Records as lines of text, or as JSON: what `show` prints and `make` reads.
 
+use crate::bytes::{Set, hex};
 use crate::run::Run;
 use crate::table::{self, Field, Form, Presence, Shape};
 
@@ -182,34 +183,22 @@ fn double(out: &mut Vec<u8>, style: Style, double: f64) {
     out.extend_from_slice(text.as_bytes());
 }
 
-const DIGITS: &[u8; 16] = b"0123456789abcdef";
-
-pub fn hex(out: &mut Vec<u8>, bytes: &[u8]) {
-    let digit = |half: u8| DIGITS.get(usize::from(half)).copied().unwrap_or(b'0');
-    for byte in bytes {
-        out.extend_from_slice(&[digit(byte >> 4), digit(byte & 15)]);
-    }
-}
-
 /// A string in double quotes with JSON's escapes. Escaped is also what could act on a
 /// terminal or break a line: DEL, the C1 controls, the line separators and the marks
 /// that turn the direction of writing.
 pub fn string(out: &mut Vec<u8>, bytes: &[u8]) {
     out.push(b'"');
     let mut rest = bytes;
-    while let Some(plain) = rest.iter().position(|byte| is_marked(*byte)) {
-        let (before, after) = rest.split_at(plain);
-        out.extend_from_slice(before);
+    while !rest.is_empty() {
+        let (plain, after) = rest.split_at(MARKED.first_in(rest));
+        out.extend_from_slice(plain);
         rest = after.get(escaped(out, after)..).unwrap_or_default();
     }
-    out.extend_from_slice(rest);
     out.push(b'"');
 }
 
-/// A byte that is escaped, or that begins a character that may be.
-fn is_marked(byte: u8) -> bool {
-    matches!(byte, 0..=0x1f | b'"' | b'\\' | 0x7f | 0xc2 | 0xe2)
-}
+/// The bytes that are escaped, or that begin a character that may be.
+static MARKED: Set = Set::of(&[b'"', b'\\', 0x7f, 0xc2, 0xe2]).and_below(0x20);
 
 /// Puts the character that a marked byte begins, and says how many bytes it has.
 fn escaped(out: &mut Vec<u8>, bytes: &[u8]) -> usize {

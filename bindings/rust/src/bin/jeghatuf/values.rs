@@ -1,12 +1,16 @@
 //! The values of a line that are no lists and no elements, back to bytes.
 
-use crate::parse::{Fault, Parsed, Parser, ends_value, shown};
+use crate::bytes::{self, Set};
+use crate::parse::{Fault, Parsed, Parser, VALUE_ENDS, shown};
 use crate::spell::Style;
 use crate::table::Form;
 
 /// Above every limit of a value. A longer one is cut to it, so that its length fits two
 /// bytes, and the library refuses it as it would refuse the whole.
 const MOST_VALUE: usize = 4_096;
+
+/// What ends a plain part of a string.
+static STRING_ENDS: Set = Set::of(b"\"\\").and_below(0x20);
 
 impl Parser<'_> {
     /// A whole number between two ends, in so many bytes.
@@ -17,22 +21,15 @@ impl Parser<'_> {
         width: usize,
         run: &mut Vec<u8>,
     ) -> Parsed<()> {
-        let word = self.word(ends_value);
+        let word = self.word(&VALUE_ENDS);
         let (is_negative, digits) = match word {
             [b'-', digits @ ..] => (true, digits),
             digits => (false, digits),
         };
-        if digits.is_empty() || !digits.iter().all(u8::is_ascii_digit) {
-            return Err(Fault::new(format!(
-                "a whole number expected, not {}",
-                shown(word)
-            )));
-        }
-        let size = digits.iter().try_fold(0_u64, |number, digit| {
-            number.checked_mul(10)?.checked_add(u64::from(digit - b'0'))
-        });
-        // no field holds what a u64 does not
-        let size = size.map_or(i128::MAX, i128::from);
+        let Some(size) = size(digits) else {
+            let found = shown(word);
+            return Err(Fault::new(format!("a whole number expected, not {found}")));
+        };
         let number = if is_negative { -size } else { size };
         if !(least..=most).contains(&number) {
             let word = String::from_utf8_lossy(word.get(..40).unwrap_or(word));
@@ -49,7 +46,7 @@ impl Parser<'_> {
     pub fn double(&mut self, run: &mut Vec<u8>) -> Parsed<()> {
         let word = match self.peek() {
             Some(b'"') if self.style == Style::Json => self.bare()?,
-            _ => self.word(ends_value),
+            _ => self.word(&VALUE_ENDS),
         };
         let wrong = || {
             Fault::new(format!(
@@ -100,7 +97,7 @@ impl Parser<'_> {
     }
 
     pub fn bool(&mut self, run: &mut Vec<u8>) -> Parsed<()> {
-        let byte = match self.word(ends_value) {
+        let byte = match self.word(&VALUE_ENDS) {
             b"false" => 0,
             b"true" => 1,
             word => {
@@ -134,7 +131,7 @@ impl Parser<'_> {
             )));
         }
         loop {
-            let plain = self.word(|byte| matches!(byte, b'"' | b'\\' | 0..=0x1f));
+            let plain = self.word(&STRING_ENDS);
             run.extend_from_slice(plain);
             match self.peek() {
                 None => return Err(Fault::new("the string has no end")),
@@ -217,21 +214,26 @@ pub fn clip(run: &mut Vec<u8>, start: usize, form: &Form) {
 }
 
 fn unhex(digits: &[u8], run: &mut Vec<u8>) -> Parsed<()> {
-    let wrong = || {
-        Fault::new(format!(
-            "pairs of hex digits expected, not {}",
-            shown(digits)
-        ))
-    };
-    if !digits.len().is_multiple_of(2) {
-        return Err(wrong());
+    if bytes::unhex(run, digits) {
+        return Ok(());
     }
-    for pair in digits.chunks_exact(2) {
-        let byte = pair.iter().try_fold(0, |byte, digit| {
-            char::from(*digit).to_digit(16).map(|half| byte << 4 | half)
-        });
-        let byte = byte.and_then(|byte| u8::try_from(byte).ok());
-        run.push(byte.ok_or_else(wrong)?);
+    let found = shown(digits);
+    Err(Fault::new(format!(
+        "pairs of hex digits expected, not {found}"
+    )))
+}
+
+/// The number that digits are, if they are such. No field holds what a u64 does not.
+fn size(digits: &[u8]) -> Option<i128> {
+    let mut size = Some(0_u64);
+    for byte in digits {
+        let digit = byte.wrapping_sub(b'0');
+        if digit > 9 {
+            return None;
+        }
+        let tenfold = size.and_then(|size| size.checked_mul(10));
+        size = tenfold.and_then(|size| size.checked_add(u64::from(digit)));
     }
-    Ok(())
+    let size = size.map_or(i128::MAX, i128::from);
+    Some(size).filter(|_| !digits.is_empty())
 }

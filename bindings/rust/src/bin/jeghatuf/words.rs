@@ -3,6 +3,7 @@
 use jeghatuf::shapes::Entity;
 use jeghatuf::{DEFAULT_NODE, Fields, PatternType, Record};
 
+use crate::bytes::hex;
 use crate::spell;
 
 /// A text without what could act on a terminal: quoted where there is such a thing, or
@@ -54,7 +55,7 @@ pub fn broker(node: u64) -> String {
 
 fn id(id: &[u8; 16]) -> String {
     let mut out = Vec::new();
-    spell::hex(&mut out, id);
+    hex(&mut out, id);
     String::from_utf8_lossy(&out).into_owned()
 }
 
