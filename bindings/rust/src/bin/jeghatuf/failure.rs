@@ -1,10 +1,12 @@
 //! How a command ends, and lines on standard error.
 
 use std::fmt::Display;
-use std::io::{self, Write};
+use std::io::{self, IsTerminal, Write};
 use std::process::ExitCode;
 
 use jeghatuf::{Refusal, Stopped};
+
+use crate::progress::CLEAR;
 
 /// Why a command ends early.
 pub enum Failure {
@@ -102,5 +104,8 @@ pub fn numbered(refusal: Refusal) -> String {
 
 /// A line on standard error. Where that cannot be written to, there is nobody to tell.
 pub fn say(line: &str) {
-    let _ = writeln!(io::stderr().lock(), "jeghatuf: {line}");
+    let mut errors = io::stderr().lock();
+    // a line that says how far the work is may stand there
+    let clear = if errors.is_terminal() { CLEAR } else { "" };
+    let _ = writeln!(errors, "{clear}jeghatuf: {line}");
 }

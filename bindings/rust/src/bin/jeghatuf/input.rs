@@ -50,8 +50,10 @@ impl Input {
 /// file has them.
 pub struct Window {
     input: Input,
+    /// What was read stands from `start` to `end`; behind it is room.
     bytes: Vec<u8>,
     start: usize,
+    end: usize,
     ended: bool,
     /// The place in the file of the first byte.
     pub place: u64,
@@ -65,6 +67,7 @@ impl Window {
             input,
             bytes: Vec::new(),
             start: 0,
+            end: 0,
             ended: false,
             place: 0,
         }
@@ -81,12 +84,14 @@ impl Window {
 
     /// The bytes from here on, as far as they were read.
     pub fn rest(&self) -> &[u8] {
-        self.bytes.get(self.start..).unwrap_or_default()
+        self.bytes.get(self.start..self.end).unwrap_or_default()
     }
 
-    pub fn into_rest(mut self) -> Vec<u8> {
-        self.bytes.drain(..self.start.min(self.bytes.len()));
-        std::mem::take(&mut self.bytes)
+    fn into_rest(mut self) -> Vec<u8> {
+        let mut bytes = std::mem::take(&mut self.bytes);
+        bytes.truncate(self.end);
+        bytes.drain(..self.start.min(self.end));
+        bytes
     }
 
     /// Steps over so many bytes.
@@ -101,42 +106,51 @@ impl Window {
         if self.ended || self.rest().len() >= least {
             return Ok(());
         }
-        self.progress.at(self.place);
-        self.bytes.drain(..self.start.min(self.bytes.len()));
+        self.bytes.copy_within(self.start..self.end, 0);
+        self.end -= self.start;
         self.start = 0;
-        while !self.ended && self.bytes.len() < least {
-            self.read_some(least)?;
+        while !self.ended && self.end < least {
+            if self.end == self.bytes.len() {
+                self.grow(least)?;
+            }
+            self.read_some()?;
         }
         Ok(())
     }
 
-    /// Reads once, into the room that there is, or as much again.
-    fn read_some(&mut self, least: usize) -> Result<(), Failure> {
-        let filled = self.bytes.len();
-        let wanted = if least > ROOM { filled.max(ROOM) } else { ROOM };
-        let room = if filled < ROOM { ROOM - filled } else { wanted };
-        if self.bytes.try_reserve(room).is_err() {
+    /// Makes more room: what a window has at first, then as much again; where all of a file
+    /// is asked for, what it says that it has, and a byte for its end.
+    fn grow(&mut self, least: usize) -> Result<(), Failure> {
+        let read = self.place + self.end as u64;
+        let left = self.input.size.and_then(|size| size.checked_sub(read));
+        let left = left.and_then(|left| usize::try_from(left).ok());
+        let room = match left {
+            Some(left) if least == usize::MAX => left.saturating_add(1).max(ROOM),
+            _ => self.end.max(ROOM),
+        };
+        if self.bytes.try_reserve_exact(room).is_err() {
+            let name = &self.input.name;
             return Err(Failure::unusable(
-                &self.input.name,
+                name,
                 "too long for this machine's memory",
             ));
         }
-        self.bytes.resize(filled + room, 0);
-        let read = match self.bytes.get_mut(filled..) {
-            Some(room) => self.input.reader.read(room),
-            None => Ok(0),
-        };
-        let count = match &read {
-            Ok(count) => *count,
-            Err(_) => 0,
-        };
-        self.bytes.truncate(filled + count);
-        self.progress.at(self.place + (filled + count) as u64);
-        match read {
-            Ok(count) => self.ended = count == 0,
+        self.bytes.resize(self.end + room, 0);
+        Ok(())
+    }
+
+    /// Reads once, into the room that there is.
+    fn read_some(&mut self) -> Result<(), Failure> {
+        let room = self.bytes.get_mut(self.end..).unwrap_or_default();
+        match self.input.reader.read(room) {
+            Ok(count) => {
+                self.end += count;
+                self.ended = count == 0;
+            }
             Err(fault) if fault.kind() == io::ErrorKind::Interrupted => {}
             Err(fault) => return Err(self.fault(&fault)),
         }
+        self.progress.at(self.place + self.end as u64);
         Ok(())
     }
 

@@ -44,7 +44,7 @@ pub fn line(line: &[u8], style: Style, run: &mut Vec<u8>) -> Parsed<u8> {
         Style::Json => parser.json_kind()?,
     };
     let closing = (style == Style::Json).then_some(b'}');
-    parser.fields(shape, closing, run)?;
+    parser.fields(shape, closing, true, run)?;
     parser.blanks();
     match parser.peek() {
         None => Ok(number),
@@ -190,14 +190,20 @@ impl<'a> Parser<'a> {
 
     /// Puts the fields up to the closing byte, or the line's end, behind the run, in the
     /// order of their tags.
-    fn fields(&mut self, shape: &Shape, closing: Option<u8>, run: &mut Vec<u8>) -> Parsed<()> {
+    fn fields(
+        &mut self,
+        shape: &Shape,
+        closing: Option<u8>,
+        is_record: bool,
+        run: &mut Vec<u8>,
+    ) -> Parsed<()> {
         let start = run.len();
         let (mut first, mut seen, mut last) = (true, 0_u32, 0);
         let mut is_ordered = true;
         while self.member(&mut first, closing)? {
             let name = self.field_name()?;
-            if self.style == Style::Json && name == b"kind" {
-                self.kind_again(shape, &mut seen)?;
+            if is_record && self.style == Style::Json && name == b"kind" {
+                self.kind_again(&mut seen)?;
                 continue;
             }
             let field = named(shape, name, last)?;
@@ -217,11 +223,8 @@ impl<'a> Parser<'a> {
         Ok(())
     }
 
-    /// Passes over the kind's member, once and in a record alone: no field has tag 0.
-    fn kind_again(&mut self, shape: &Shape, seen: &mut u32) -> Parsed<()> {
-        if !KINDS.iter().any(|kind| kind.name == shape.name) {
-            return Err(unknown_field(shape, b"kind"));
-        }
+    /// Passes over the kind's member, once: no field has tag 0.
+    fn kind_again(&mut self, seen: &mut u32) -> Parsed<()> {
         if *seen & 1 != 0 {
             return Err(Fault::new("it stands twice").inside("kind"));
         }
@@ -294,7 +297,7 @@ impl<'a> Parser<'a> {
             Form::Ids => self.list(|parser| parser.id(run)),
             Form::Shape(shape) => {
                 self.expect(b'{')?;
-                self.fields(shape, Some(b'}'), run)
+                self.fields(shape, Some(b'}'), false, run)
             }
         }
     }

@@ -8,6 +8,9 @@ use std::time::{Duration, Instant};
 /// How long work is quiet, and how often a line is written anew.
 const PAUSE: Duration = Duration::from_millis(500);
 
+/// Takes a terminal's line away.
+pub const CLEAR: &str = "\r\x1b[K";
+
 /// Bytes between two looks at the clock.
 const STEP: u64 = 1 << 20;
 
@@ -51,14 +54,14 @@ impl Progress {
             ),
             None => format!("{megabytes:.1} MB"),
         };
-        let _ = write!(io::stderr(), "\r\x1b[K{line}");
+        let _ = write!(io::stderr(), "{CLEAR}{line}");
     }
 }
 
 impl Drop for Progress {
     fn drop(&mut self) {
         if self.is_shown {
-            let _ = write!(io::stderr(), "\r\x1b[K");
+            let _ = write!(io::stderr(), "{CLEAR}");
         }
     }
 }
@@ -74,10 +77,10 @@ pub fn timed<T>(what: &str, work: impl FnOnce() -> T) -> T {
             let start = Instant::now();
             while ends.recv_timeout(PAUSE) == Err(RecvTimeoutError::Timeout) {
                 let seconds = start.elapsed().as_secs_f64();
-                let _ = write!(io::stderr(), "\r\x1b[K{what}: {seconds:.0} s");
+                let _ = write!(io::stderr(), "{CLEAR}{what}: {seconds:.0} s");
             }
             if start.elapsed() > PAUSE {
-                let _ = write!(io::stderr(), "\r\x1b[K");
+                let _ = write!(io::stderr(), "{CLEAR}");
             }
         });
         let answer = work();
