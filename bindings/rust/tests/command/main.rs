@@ -1,6 +1,7 @@
 //! The command `jeghatuf`: its table of fields, and that `show` and `make` undo each other.
 
 mod draw;
+mod files;
 mod format;
 mod names;
 mod program;
