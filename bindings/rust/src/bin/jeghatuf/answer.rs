@@ -68,7 +68,7 @@ impl Records {
 
     /// Whether standard output is free for words.
     pub fn is_beside(&self) -> bool {
-        self.style.is_some() || !self.out.is_standard()
+        !self.out.is_standard()
     }
 
     /// Puts records that the library wrote.

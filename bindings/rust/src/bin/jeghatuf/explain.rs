@@ -154,16 +154,15 @@ fn said(field: &Field, value: &[u8], number: u8) -> Box<Fault> {
     let refusal = Refusal::from_number(number);
     let is_text = str::from_utf8(value).is_ok();
     let reason = match (refusal, &field.form) {
-        (Refusal::Wrong, Form::Text | Form::Key) if !is_text => "no UTF-8".into(),
-        (Refusal::Wrong, Form::Key) => "the key is not above the one before it".into(),
-        (Refusal::Wrong, Form::Offset) => "a log offset is -1 or more".into(),
-        (Refusal::OverALimit, Form::Shape(_)) => "one more than there may be".into(),
-        (Refusal::OverALimit, Form::Text | Form::Key) => "the string is too long".into(),
-        (Refusal::OverALimit, Form::Bytes) => "too many bytes".into(),
-        (Refusal::OverALimit, _) => "the list is too long".into(),
+        (Refusal::Wrong, Form::Text | Form::Key) if !is_text => "no UTF-8",
+        (Refusal::Wrong, Form::Key) => "the key is not above the one before it",
+        (Refusal::Wrong, Form::Offset) => "a log offset is -1 or more",
+        (Refusal::OverALimit, Form::Shape(_)) => "one more than there may be",
+        (Refusal::OverALimit, Form::Text | Form::Key) => "the string is too long",
+        (Refusal::OverALimit, Form::Bytes) => "too many bytes",
+        (Refusal::OverALimit, _) => "the list is too long",
         _ => return Fault::new(words(number)),
     };
-    let reason: String = reason;
     Fault::new(format!("{reason} ({number})"))
 }
 

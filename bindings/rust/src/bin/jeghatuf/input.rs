@@ -11,6 +11,9 @@ use crate::progress::Progress;
 /// has at most 65,538 bytes.
 const ROOM: usize = 1 << 20;
 
+/// More than this is never kept: the library's answers are below 2^32.
+const MOST: usize = u32::MAX as usize;
+
 /// A file, or standard input, with the name that lines have for it.
 pub struct Input {
     pub name: String,
@@ -99,6 +102,7 @@ impl Window {
         let count = count.min(self.rest().len());
         self.start += count;
         self.place += count as u64;
+        self.progress.at(self.place);
     }
 
     /// Reads until there are so many bytes, or the file ends.
@@ -128,12 +132,9 @@ impl Window {
             Some(left) if least == usize::MAX => left.saturating_add(1).max(ROOM),
             _ => self.end.max(ROOM),
         };
-        if self.bytes.try_reserve_exact(room).is_err() {
-            let name = &self.input.name;
-            return Err(Failure::unusable(
-                name,
-                "too long for this machine's memory",
-            ));
+        if self.end > MOST || self.bytes.try_reserve_exact(room).is_err() {
+            let fault = "too long to be kept in memory";
+            return Err(Failure::unusable(&self.input.name, fault));
         }
         self.bytes.resize(self.end + room, 0);
         Ok(())
@@ -150,7 +151,10 @@ impl Window {
             Err(fault) if fault.kind() == io::ErrorKind::Interrupted => {}
             Err(fault) => return Err(self.fault(&fault)),
         }
-        self.progress.at(self.place + self.end as u64);
+        if self.end > ROOM {
+            // all of a file is read, and none of it passed
+            self.progress.at(self.place + self.end as u64);
+        }
         Ok(())
     }
 

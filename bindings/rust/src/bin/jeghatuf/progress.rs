@@ -12,7 +12,7 @@ const PAUSE: Duration = Duration::from_millis(500);
 pub const CLEAR: &str = "\r\x1b[K";
 
 /// Bytes between two looks at the clock.
-const STEP: u64 = 1 << 20;
+const STEP: u64 = 1 << 14;
 
 /// How far the reading of a file is. It is shown where standard error is a terminal, and
 /// standard output is none that the lines would stand in.
@@ -37,7 +37,7 @@ impl Progress {
     /// Says that so many bytes were read.
     pub fn at(&mut self, place: u64) {
         let Some(shown) = self.shown else { return };
-        if place < self.next && self.is_shown {
+        if place < self.next {
             return;
         }
         self.next = place.saturating_add(STEP);
