@@ -55,7 +55,8 @@ pub const REPEATED: u8 = 20;
 // Apply: a log offset not above the stored one, directly after Read's.
 pub const NOT_LATER: u8 = 21;
 
-// Restore, and a snapshot of the new form: the log offset is missing at the start or stands later, directly after that record's Read's.
+// Restore, and a snapshot of the new form: the log offset is missing at the start or stands later, directly after that record's Read's. The freeze
+// from a run: it stands later.
 pub const MISPLACED_OFFSET: u8 = 22;
 
 // A snapshot of the old form: the offset that it is given is below -1.
