@@ -4,7 +4,7 @@ use std::ffi::{OsStr, OsString};
 
 use crate::failure::Failure;
 use crate::spell::Style;
-use jeghatuf::{Image, MOST_CAPACITY};
+use jeghatuf::{Image, LEAST_CAPACITY, MOST_CAPACITY};
 
 /// What may stand among the words.
 #[derive(Clone, Copy, PartialEq, Eq)]
@@ -129,8 +129,10 @@ impl Arguments {
         let capacity = capacity.filter(|capacity| Image::open(*capacity).is_ok());
         self.capacity = capacity.ok_or_else(|| {
             let value = crate::words::plain(&value.to_string_lossy());
-            let most = MOST_CAPACITY;
-            self.wrong(&format!("--at {value}: a capacity is 144 to {most} bytes"))
+            let (least, most) = (LEAST_CAPACITY, MOST_CAPACITY);
+            self.wrong(&format!(
+                "--at {value}: a capacity is {least} to {most} bytes"
+            ))
         })?;
         Ok(())
     }

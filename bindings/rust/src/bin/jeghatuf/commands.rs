@@ -28,7 +28,8 @@ Strings stand in quotes with JSON's escapes, ids as 32 hex digits, bytes as hex:
 brackets, elements in braces. It ends at the first record that does not read.
 
   $ jeghatuf show plan.records
-  Topic name=\"plan-0042\" topic_id=00000000000000000000000000000042 partitions=2 replication_factor=3
+  ..
+  Topic name=\"plan-0042\" topic_id=0000000000000000000000000000002a partitions=2 replication_factor=3
   ..",
         choices: &[Json],
         run: show::show,
@@ -68,7 +69,7 @@ With --json the lines are those of show --json.
         words: "NAME FILE, or topic --id ID FILE",
         about: "a topic, by its name or its id, and which sheets it has",
         more: "  $ jeghatuf topic plan-0042 plan.records
-  Topic name=\"plan-0042\" topic_id=00000000000000000000000000000042 partitions=1 replication_factor=3
+  Topic name=\"plan-0042\" topic_id=0000000000000000000000000000008e partitions=1 replication_factor=3
   # room list yes, load sheet no",
         choices: &[Json, At, Id],
         run: lookups::topic,
@@ -97,7 +98,7 @@ With --json the lines are those of show --json.
         more: "With --log the answer comes from the records alone, without an image: every record has to
 read, and none is held to the rules of the image.
 
-  $ jeghatuf freeze --log archive-2023 plan.records
+  $ jeghatuf freeze --log archive-2023 evening.records
   archive-2023 is frozen, as every name that begins with archive- is
   who: anna
   since: 2023-11-14 22:13:20.000 UTC (1700000000000 ms)
@@ -122,7 +123,9 @@ read, and none is held to the rules of the image.
         about: "which partitions are short of in-sync replicas",
         more: "A partition is short when fewer replicas are in sync than it has without those being added.
 
-  $ jeghatuf short plan.records",
+  $ jeghatuf short plan.records
+  partition 1 (load sheet) of plan-0043: in sync [1, 2], replicas [1, 2, 3], being added []
+  short of in-sync replicas: 1 of 3 partitions",
         choices: &[Json, At],
         run: lookups::short,
     },
