@@ -31,7 +31,7 @@ pub fn field_of(s: &[u8], tag: u8) -> Found
 }
 
 // A field's number, missing where there is no such field or it has another length.
-#[derive(Drop)]
+#[derive(Clone, Copy)]
 enum Number {
     Is(u64),
     Missing,
@@ -78,7 +78,7 @@ fn signed(n: u32) -> i32
 }
 
 // A node, where there is one.
-#[derive(Drop)]
+#[derive(Clone, Copy)]
 pub enum Node {
     Is(NodeId),
     Missing,
@@ -142,7 +142,7 @@ pub fn node_id(s: &[u8]) -> Node
 }
 
 // A leader epoch, where there is one.
-#[derive(Drop)]
+#[derive(Clone, Copy)]
 pub enum Epoch {
     Is(LeaderEpoch),
     Missing,
@@ -159,7 +159,7 @@ pub fn leader_epoch(s: &[u8]) -> Epoch
 }
 
 // A quota's value, where there is one.
-#[derive(Drop)]
+#[derive(Clone, Copy)]
 pub enum QuotaValue {
     Is(Quota),
     Missing,

@@ -9,7 +9,7 @@ use keys::{node_at, value_at};
 use model::NodeId;
 
 // How many slots there are, and one of them; their number stands for none.
-#[derive(Drop)]
+#[derive(Clone, Copy)]
 pub struct Slot {
     pub count: usize,
     pub at: usize,

@@ -22,7 +22,7 @@ const ZERO: u64 = wire::HALF;
 
 // A sum of two signed numbers: its place among them, and whether it leaves them. Below them the place is the lowest; above them it starts again
 // from there.
-#[derive(Drop)]
+#[derive(Clone, Copy)]
 struct Sum {
     place: u64,
     leaves: bool,

@@ -19,7 +19,7 @@ use keys::value_at;
 use model::kinds::TOPIC;
 
 // Its count, 0 where there is none, and whether there is one.
-#[derive(Drop)]
+#[derive(Clone, Copy)]
 pub struct Old {
     pub count: u64,
     pub there: bool,

@@ -16,14 +16,14 @@ use image_entries::tail_start;
 pub use layout::lay;
 
 // Where the entries stand in a work array: the real ones up to `mid`, the empty groups from there up to `used`.
-#[derive(Drop)]
+#[derive(Clone, Copy)]
 pub struct Bounds {
     pub mid: usize,
     pub used: usize,
 }
 
 // What a work array holds: where its entries stand, and the fixed parts.
-#[derive(Drop)]
+#[derive(Clone, Copy)]
 pub struct State {
     pub bounds: Bounds,
     pub epoch: u64,
@@ -32,7 +32,7 @@ pub struct State {
 }
 
 // A record's refusal, or the state after its moves.
-#[derive(Drop)]
+#[derive(Clone, Copy)]
 pub enum Tried {
     Refused(u8),
     Moved(State),

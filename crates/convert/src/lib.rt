@@ -24,7 +24,7 @@ const OFFSET_SIZE: usize = 14;
 const OFFSET_AT: usize = 6;
 
 // Records that are all right, or the refusal of the first that is not, with its place.
-#[derive(Drop)]
+#[derive(Clone, Copy)]
 enum Check {
     Passes,
     Fails(u8, usize),

@@ -13,13 +13,13 @@ use model::Order;
 pub use topics::remove_topic;
 
 // Where the next entry begins.
-#[derive(Drop)]
+#[derive(Clone, Copy)]
 pub struct Cursor {
     pub at: usize,
 }
 
 // What stands at a cursor.
-#[derive(Drop)]
+#[derive(Clone, Copy)]
 pub enum Step {
     // An entry: where it begins and ends, and the cursor after it.
     Entry(usize, usize, Cursor),
@@ -51,7 +51,7 @@ impl Cursor {
 }
 
 // Where an entry of a key stands, or would stand.
-#[derive(Drop)]
+#[derive(Clone, Copy)]
 pub struct Place {
     pub at: usize,
     pub end: usize,

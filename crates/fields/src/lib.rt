@@ -5,14 +5,14 @@ ghost use Rattle.fields.specs.Fields.{fields_from, Inside, told, Onward, place_o
 use wire::{get16, size};
 
 // Where the next field begins, and where the run ends.
-#[derive(Drop)]
+#[derive(Clone, Copy)]
 pub struct Cursor {
     pub at: usize,
     pub to: usize,
 }
 
 // What stands at a cursor.
-#[derive(Drop)]
+#[derive(Clone, Copy)]
 pub enum Step {
     // A field: its tag, its value's place and length, and the cursor after it.
     Field {
@@ -58,7 +58,7 @@ impl Cursor {
 }
 
 // Where a field's value was found.
-#[derive(Drop)]
+#[derive(Clone, Copy)]
 pub enum Found {
     Part { start: usize, len: usize },
     Missing,

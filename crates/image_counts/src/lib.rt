@@ -33,7 +33,7 @@ pub fn beside(e: &[u8], name: &[u8]) -> Order
 }
 
 // A topic's partitions: how many, and where the entries after them begin.
-#[derive(Drop)]
+#[derive(Clone, Copy)]
 struct Tally {
     count: u64,
     end: usize,

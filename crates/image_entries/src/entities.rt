@@ -30,7 +30,7 @@ fn is_below(e: &[u8], a: Cursor, b: Cursor) -> bool
 }
 
 // What the entities of a quota come to: where the fields behind them begin, or that one is below the one before it.
-#[derive(Drop)]
+#[derive(Clone, Copy)]
 pub enum Entities {
     InOrder(usize),
     OutOfOrder,

@@ -11,7 +11,7 @@ use sorting::sort;
 pub const MOST: usize = 1456;
 
 // What a test tells: no two are the same, two are, or nothing.
-#[derive(Drop)]
+#[derive(Clone, Copy)]
 pub enum Verdict {
     Apart,
     Shared,

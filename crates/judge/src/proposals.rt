@@ -22,7 +22,7 @@ use model::refusals::{CONSUMED, NO_EXTENSION, WITHDRAWN};
 const APPROVAL: usize = 8;
 
 // The next value of a tag at a cursor or after it, by its place and the cursor after it, or none.
-#[derive(Drop)]
+#[derive(Clone, Copy)]
 pub enum Value {
     At(usize, usize, Cursor),
     Last,

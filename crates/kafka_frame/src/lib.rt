@@ -18,14 +18,14 @@ const MESSAGE_VERSION: u64 = 0;
 const NONE: u8 = 0;
 
 // Where a part ends, or a refusal's number.
-#[derive(Drop)]
+#[derive(Clone, Copy)]
 pub enum Passed {
     To(usize),
     Refused(u8),
 }
 
 // The kind of a message, and where its fields begin.
-#[derive(Drop)]
+#[derive(Clone, Copy)]
 pub enum Frame {
     Message(u8, usize),
     Refused(u8),

@@ -16,14 +16,14 @@ const STRING_LIMIT: usize = 255;
 const HALF: u64 = 0x8000_0000;
 
 // Where a name begins and ends.
-#[derive(Drop)]
+#[derive(Clone, Copy)]
 pub enum Name {
     Text(usize, usize),
     Refused(u8),
 }
 
 // A broker's id, with the place after the message.
-#[derive(Drop)]
+#[derive(Clone, Copy)]
 pub enum Broker {
     Fields(u64, usize),
     Refused(u8),

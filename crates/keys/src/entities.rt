@@ -11,7 +11,7 @@ use model::Order;
 use reader::field;
 
 // What stands at a cursor: an element's place and the cursor after it, or no more elements.
-#[derive(Drop)]
+#[derive(Clone, Copy)]
 pub enum Entity {
     At(usize, usize, Cursor),
     Last,

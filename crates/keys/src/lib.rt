@@ -23,7 +23,7 @@ pub use values::{place_in, same_value};
 const BODY: usize = 3;
 
 // A part of a slice.
-#[derive(Drop)]
+#[derive(Clone, Copy)]
 pub struct Part {
     pub start: usize,
     pub end: usize,

@@ -107,7 +107,7 @@ fn read_at(rows: &[u32], run: &[u8], at: usize) -> Answer
 }
 
 // What a pass over a run comes to: all its records are noted, or the number and the place of the first at fault.
-#[derive(Drop)]
+#[derive(Clone, Copy)]
 enum Pass {
     Done,
     Stopped(u8, usize),

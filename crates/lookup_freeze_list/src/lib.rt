@@ -49,7 +49,7 @@ fn has_pattern(e: &[u8], literal: bool) -> bool
 }
 
 // What the scope of a freeze comes to: it is above the last name, or the window of the scopes to come.
-#[derive(Drop)]
+#[derive(Clone, Copy)]
 enum Scope {
     Above,
     From(Window),

@@ -8,7 +8,7 @@ const LIMIT: u64 = 0x8000_0000_0000_0000;
 const MOST: u64 = 922_337_203_685_477_580;
 
 // A number, or nothing that reads as one below 2^63.
-#[derive(Drop)]
+#[derive(Clone, Copy)]
 pub enum Rate {
     Is(u64),
     None,

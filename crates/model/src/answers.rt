@@ -1,21 +1,21 @@
 // What the operations answer with. What 01's number and values are then stands in specs/Answers.
 
 // Bytes used or written, or a refusal's number.
-#[derive(Drop)]
+#[derive(Clone, Copy)]
 pub enum Answer {
     Used(usize),
     Refused(u8),
 }
 
 // A number, or a refusal's.
-#[derive(Drop)]
+#[derive(Clone, Copy)]
 pub enum Value {
     Is(u64),
     Refused(u8),
 }
 
 // A rate, none, or a refusal: none and 0 differ.
-#[derive(Drop)]
+#[derive(Clone, Copy)]
 pub enum Rated {
     Rate(u64),
     None,
@@ -23,7 +23,7 @@ pub enum Rated {
 }
 
 // Done, a refusal, or a record's refusal with the place of its first byte.
-#[derive(Drop)]
+#[derive(Clone, Copy)]
 pub enum Restored {
     Done,
     Refused(u8),
@@ -31,7 +31,7 @@ pub enum Restored {
 }
 
 // Bytes written, a refusal, or a record's refusal with the place of its first byte.
-#[derive(Drop)]
+#[derive(Clone, Copy)]
 pub enum RunAnswer {
     Written(usize),
     Refused(u8),
@@ -39,7 +39,7 @@ pub enum RunAnswer {
 }
 
 // The same, with the log offset beside the bytes written.
-#[derive(Drop)]
+#[derive(Clone, Copy)]
 pub enum Separated {
     Written(usize, u64),
     Refused(u8),
@@ -47,7 +47,7 @@ pub enum Separated {
 }
 
 // Two recordings part at a count, or agree up to it; or a refusal's number.
-#[derive(Drop)]
+#[derive(Clone, Copy)]
 pub enum Compared {
     Parted(u64),
     Agree(u64),
@@ -55,7 +55,7 @@ pub enum Compared {
 }
 
 // Bytes written with a count beside them, or a refusal's number.
-#[derive(Drop)]
+#[derive(Clone, Copy)]
 pub enum Counted {
     Written(usize, u64),
     Refused(u8),

@@ -4,7 +4,7 @@ pub mod kinds;
 pub mod refusals;
 
 // The kinds of record: 25 that move an image, by the Rust's names, and the log offset that a snapshot starts with.
-#[derive(Drop)]
+#[derive(Clone, Copy)]
 pub enum Kind {
     Topic,
     Partition,
@@ -35,7 +35,7 @@ pub enum Kind {
 }
 
 // How two byte strings, or two keys, stand to each other.
-#[derive(Drop)]
+#[derive(Clone, Copy)]
 pub enum Order {
     Less,
     Equal,
@@ -43,9 +43,9 @@ pub enum Order {
 }
 
 // A broker's or controller's number. Never taken for a leader epoch.
-#[derive(Drop)]
+#[derive(Clone, Copy)]
 pub struct NodeId(pub u64);
 
 // A partition's leader epoch. Never taken for a node.
-#[derive(Drop)]
+#[derive(Clone, Copy)]
 pub struct LeaderEpoch(pub i32);

@@ -8,7 +8,7 @@ use names::{Name, name_at};
 use wire::{begins_with, compare, put, same};
 
 // A place in a list of names, and how many names stand before it.
-#[derive(Drop)]
+#[derive(Clone, Copy)]
 pub struct Window {
     pub at: usize,
     pub n: usize,

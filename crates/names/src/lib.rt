@@ -12,7 +12,7 @@ use wire::{compare, get16, is_text};
 const NAME_LIMIT: usize = 255;
 
 // What stands at a place of a list: a name, where its bytes begin and end, or bytes that are no whole name.
-#[derive(Drop)]
+#[derive(Clone, Copy)]
 pub enum Name {
     At(usize, usize),
     Torn,
@@ -66,7 +66,7 @@ fn name_fault(v: &[u8], prior: &[u8], ordered: bool) -> u8
 }
 
 // What a list comes to: how many names it has and where the last one's bytes begin, which end with the list; or the number of the first fault.
-#[derive(Drop)]
+#[derive(Clone, Copy)]
 pub enum Checked {
     Names(usize, usize),
     Refused(u8),

@@ -6,7 +6,7 @@ ghost use Rattle.packing.specs.Numbered.{named};
 use model::{Kind, kinds};
 
 // A kind, or none.
-#[derive(Drop)]
+#[derive(Clone, Copy)]
 pub enum Numbered {
     Kind(Kind),
     Unknown,

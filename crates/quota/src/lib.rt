@@ -5,7 +5,7 @@ ghost use Rattle.std.specs.Float.{binary64};
 ghost use Rattle.quota.specs.Quota.{quota_of, bits_of, exactly_of, whole_of};
 
 // The bits that a ClientQuota record holds, and the number that they spell. A bit pattern of no number has the value 0.0.
-#[derive(Drop)]
+#[derive(Clone, Copy)]
 pub struct Quota {
     pub bits: u64,
     pub number: bool,
@@ -50,7 +50,7 @@ pub fn to_bits(quota: Quota) -> u64
 }
 
 // A whole number, where a value is one.
-#[derive(Drop)]
+#[derive(Clone, Copy)]
 pub enum Whole {
     Is(i64),
     None,

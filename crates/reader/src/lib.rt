@@ -9,7 +9,7 @@ ghost use Rattle.reader.specs.Says.{Says};
 use fields::{Cursor, Found, Step};
 
 // What stands at a place.
-#[derive(Drop)]
+#[derive(Clone, Copy)]
 pub enum Next {
     // A field: its tag, its value's place and length, and the place after it.
     Field {
@@ -74,7 +74,7 @@ pub fn left_at(s: &[u8], at: usize) -> usize
 }
 
 // The bytes, and the place to read at.
-#[derive(Drop)]
+#[derive(Clone, Copy)]
 pub struct Reader<'a> {
     pub src: &'a [u8],
     pub at: usize,

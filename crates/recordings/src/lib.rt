@@ -19,7 +19,7 @@ const OFFSET_SIZE: usize = 14;
 const ENDED: u8 = 0;
 
 // How a run stands: it goes on with a record of so many bytes; or it is over, by 0 where it has ended, else by the number of its refusal.
-#[derive(Drop)]
+#[derive(Clone, Copy)]
 enum Stand {
     On(usize),
     Over(u8),
@@ -69,7 +69,7 @@ fn same_snapshots(first: &[u8], second: &[u8]) -> bool
 }
 
 // How many bytes the record has that was applied to both images; or nothing was changed.
-#[derive(Drop)]
+#[derive(Clone, Copy)]
 enum Shared {
     Moved(usize),
     Nothing,
@@ -106,7 +106,7 @@ fn advance_both(
 
 // What a turn comes to: both runs go on, by so many bytes each, and whether their images are known to be equal bytes; or they part or agree, and
 // nothing is changed.
-#[derive(Drop)]
+#[derive(Clone, Copy)]
 enum Turn {
     On(usize, usize, bool),
     Parted,

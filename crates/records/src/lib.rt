@@ -21,7 +21,7 @@ use wire::get16;
 
 // Where a record stands: in the log, as Validate and Apply are given it; in an image, whose topics have one field more; or by itself and in a
 // snapshot, which may start with the log offset.
-#[derive(Drop)]
+#[derive(Clone, Copy)]
 pub enum Source {
     Logged,
     Stored,

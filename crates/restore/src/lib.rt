@@ -18,7 +18,7 @@ use records::read;
 use restore_copy::rebuild;
 
 // The log offset that some records start with, and how many bytes its record has; or a refusal of the first record.
-#[derive(Drop)]
+#[derive(Clone, Copy)]
 enum Begun {
     At(u64, usize),
     Refused(u8),
@@ -71,7 +71,7 @@ fn no_records(offset: u64) -> State
 
 // What the first of some records comes to: the state after it and how many bytes it has; Read's refusal, which leaves the work array as it was; or
 // Apply's.
-#[derive(Drop)]
+#[derive(Clone, Copy)]
 enum Next {
     Moved(State, usize),
     Unread(u8),
@@ -101,7 +101,7 @@ fn next_record(
 
 // What a run over records comes to: the state after all; the place that Read refuses, and the state before it; or the place that Apply refuses, after
 // which the work array is of no use.
-#[derive(Drop)]
+#[derive(Clone, Copy)]
 enum Ran {
     Done(State),
     Unread(u8, usize, State),

@@ -6,7 +6,7 @@ use header::{HEAD_SIZE, NO_EPOCH, NO_OFFSET, put_header};
 use model::kinds;
 
 // Where the entries end so far, and the fixed parts so far.
-#[derive(Drop)]
+#[derive(Clone, Copy)]
 struct Copied {
     end: usize,
     epoch: u64,

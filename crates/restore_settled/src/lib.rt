@@ -28,7 +28,7 @@ fn replica_count(e: &[u8]) -> u64
 }
 
 // A topic's partitions: how many, the replica count of the last, and where the entries after them begin.
-#[derive(Drop)]
+#[derive(Clone, Copy)]
 struct Tally {
     count: u64,
     factor: u64,

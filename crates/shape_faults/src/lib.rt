@@ -23,14 +23,14 @@ const OUT_OF_ORDER: u8 = WRONG;
 const NESTED: u32 = 9;
 
 // Where the key of the element before stands. There is none where the start is above the end.
-#[derive(Drop)]
+#[derive(Clone, Copy)]
 pub struct Prior {
     pub start: usize,
     pub end: usize,
 }
 
 // What came before a field: the last tag, how often it came, the key of its last element.
-#[derive(Drop)]
+#[derive(Clone, Copy)]
 pub struct Walk {
     pub last: usize,
     pub count: usize,

@@ -20,7 +20,7 @@ const RECORD_LIMIT: usize = 8;
 const LENGTH_LIMIT: usize = 4;
 
 // How many records there are, or the refusal of the first at fault.
-#[derive(Drop)]
+#[derive(Clone, Copy)]
 enum Count {
     Records(usize),
     Refused(u8),
@@ -65,7 +65,7 @@ fn power(n: usize, len: usize) -> usize
 }
 
 // A history by its length and its number among those of the length; or there is none.
-#[derive(Drop)]
+#[derive(Clone, Copy)]
 enum Found {
     History(usize, usize),
     Past,

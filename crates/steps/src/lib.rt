@@ -14,7 +14,7 @@ use model::refusals::NO_IMAGE;
 use validate::validate_in;
 
 // What Validate says, and where that is 0 what Apply says, else 0.
-#[derive(Drop)]
+#[derive(Clone, Copy)]
 pub struct Said {
     pub validate: u8,
     pub apply: u8,

@@ -5,7 +5,7 @@ use lookup_rates::{Rate, rate_of};
 use tool_words::names::complain_line;
 
 // Where the history is cut, if at all: after each record, or after so many.
-#[derive(Drop)]
+#[derive(Clone, Copy)]
 pub struct Cuts {
     pub any: bool,
     pub each: bool,
@@ -14,7 +14,7 @@ pub struct Cuts {
 
 // The arguments read, what is wrong with them, if anything, and whether help is asked for. The first `length` bytes of the path buffer name the
 // file, none where the sample is meant.
-#[derive(Drop)]
+#[derive(Clone, Copy)]
 pub struct Options {
     pub fault: u8,
     pub help: bool,
@@ -187,7 +187,7 @@ fn with_word(options: Options, path: &mut [u8], before: &[u8], word: &[u8]) -> O
 }
 
 // How far the arguments were read: whether the last one asks for the next.
-#[derive(Drop)]
+#[derive(Clone, Copy)]
 struct Reading {
     options: Options,
     asking: bool,

@@ -12,7 +12,7 @@ pub const MOST: u64 = 0x7fff_ffff_ffff_ffff;
 
 // How many records and restarts there were, and what the restarts changed: verdicts, and the snapshot behind a record. `read`: no read of the
 // file failed. `written`: nor a write of what was said, behind which nothing more is done.
-#[derive(Drop)]
+#[derive(Clone, Copy)]
 pub struct Course {
     pub records: u64,
     pub restarts: u64,

@@ -7,7 +7,7 @@ use tool_subjects::say_subject;
 use tool_words::say;
 
 // How far the other snapshot was taken, and whether all that was said was written.
-#[derive(Drop)]
+#[derive(Clone, Copy)]
 struct Taken {
     to: usize,
     written: bool,

@@ -49,7 +49,7 @@ fn is_renamed(plain: &[u8], other: &[u8], rec: &[u8]) -> bool {
 }
 
 // How many topics' ids name another topic, and whether what was said of them was written.
-#[derive(Drop)]
+#[derive(Clone, Copy)]
 pub struct Apart {
     pub count: u64,
     pub written: bool,

@@ -45,7 +45,7 @@ pub fn end_of(records: &[u8], at: usize) -> usize
 }
 
 // Whether two snapshots are the same, and whether what was said of it was written.
-#[derive(Drop)]
+#[derive(Clone, Copy)]
 pub struct Compared {
     pub same: bool,
     pub written: bool,

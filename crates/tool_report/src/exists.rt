@@ -13,7 +13,7 @@ use tool_words::{say, say_of};
 
 // What was seen of a snapshot's records: how many of each, the node whose configs came last, and whether all that was
 // said was written.
-#[derive(Drop)]
+#[derive(Clone, Copy)]
 struct Seen {
     brokers: u64,
     topics: u64,

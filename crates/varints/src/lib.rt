@@ -12,7 +12,7 @@ const FIFTH: u64 = 0x1000_0000;
 const FIFTH_LIMIT: u64 = 15;
 
 // A number with the place after its bytes, or a refusal's number.
-#[derive(Drop)]
+#[derive(Clone, Copy)]
 pub enum Varint {
     Is(u64, usize),
     Refused(u8),
