@@ -141,6 +141,7 @@ module _ {E : Type 0} (key : E → Key) (test : Key → Bool) where
 
   pub any_in : (l : List E) (x : E) → In x l → test (key x) ≡ true → any key test l ≡ true
   unfolding any
+  any_in [] x x4 h = elim x4 [ ]
   any_in (y ∷ l) x (inl e) h = rw (← e, h)
   any_in (y ∷ l) x (inr i) h = rw (any_in l x i h, or-true)
 

@@ -25,6 +25,7 @@ module _ {A : Type 0} where
   all_in P (x ∷ l) h = (h x (inl refl), all_in P l (λ y i. h y (inr i)))
 
   pub in_all : (P : A → Type 0) (l : List A) → All P l → (x : A) → In x l → P x
+  in_all P [] u x x4 = elim x4 [ ]
   in_all P (y ∷ l) u x (inl e) = rw e u.0
   in_all P (y ∷ l) u x (inr i) = in_all P l u.1 x i
 
@@ -65,6 +66,7 @@ module _ {A : Type 0} where
   all_replicate P (suc n) x h = (h, all_replicate P n x h)
 
   pub in_append_left : (x : A) (l m : List A) → In x l → In x (l ++ m)
+  in_append_left x [] m x'' = elim x'' [ ]
   in_append_left x (y ∷ l) m (inl e) = inl e
   in_append_left x (y ∷ l) m (inr i) = inr (in_append_left x l m i)
 
@@ -114,11 +116,13 @@ module _ {A B : Type 0} where
   all_map P Q f h (x ∷ l) u = (h x u.0, all_map P Q f h l u.1)
 
   pub in_map : (f : A → B) (l : List A) (x : A) → In x l → In (f x) (map f l)
+  in_map f [] x x3 = elim x3 [ ]
   in_map f (y ∷ l) x (inl e) = inl (ap f e)
   in_map f (y ∷ l) x (inr i) = inr (in_map f l x i)
 
   -- an element of a map is of an element
   pub map_in : (f : A → B) (l : List A) (y : B) → In y (map f l) → (x : A) × In x l × (y ≡ f x)
+  map_in f [] y x' = elim x' [ ]
   map_in f (x ∷ l) y (inl e) = (x, inl refl, e)
   map_in f (x ∷ l) y (inr i) = let r = map_in f l y i in (r.0, inr r.1, r.2)
 
@@ -201,7 +205,7 @@ module _ {A : Type 0} where
   sub_within (skip t) s = skip (sub_within t s)
   sub_within (keep_on t) nil = nil
   sub_within (keep_on t) (skip s) = skip (sub_within t s)
-  sub_within (keep_on t) (keep_on s) = keep_on (sub_within t s)
+  sub_within (keep_on {k = k'} {l = l} t) (keep_on {x = x} {k = k} s) = keep_on (sub_within {j = k} t s)
 
   pub sub_trans : {j k l : List A} → Sub j k → Sub k l → Sub j l
   sub_trans s t = sub_within t s
@@ -212,6 +216,7 @@ module _ {A : Type 0} where
   sub-all P (keep_on s) u = (u.0, sub-all P s u.1)
 
   pub sub_in : (x : A) {k l : List A} → Sub k l → In x k → In x l
+  sub_in x (nil {l = l}) i = elim i [ ]
   sub_in x (skip s) i = inr (sub_in x s i)
   sub_in x (keep_on s) (inl e) = inl e
   sub_in x (keep_on s) (inr i) = inr (sub_in x s i)

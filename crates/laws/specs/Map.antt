@@ -79,6 +79,7 @@ module _ {E : Type 0} (key : E → Key) where
 
   pub in_put : (e : E) (l : List E) (x : E) → In x (put key e l) → (x ≡ e) ⊎ In x l
   unfolding put
+  in_put e [] x (inr x4) = elim x4 [ ]
   in_put e [] x (inl q) = inl q
   in_put e (y ∷ l) x i = go (compare_keys (key e) (key y)) (in_put e l x) i
     where
@@ -317,6 +318,7 @@ module _ {E : Type 0} (key : E → Key) where
 
   pub in_get : (l : List E) → Asc l → (x : E) → In x l → get key (key x) l ≡ some x
   unfolding get
+  in_get [] a x x4 = elim x4 [ ]
   in_get (y ∷ l) a x (inl e) = rw (e, keys_total.same (key y))
   in_get (y ∷ l) a x (inr i) = rw (lt_flip (in_all (λ z. Lt (key y) (key z)) l a.0 x i)) (in_get l a.1 x i)
 

@@ -121,15 +121,19 @@ module _ {E : Type 0} (key : E → Key) where
 
   -- 3. The same change to a list and to a sublist
 
-  pub sub-put : (e : E) {c u : List E} → Sub c u → Asc key u → Sub (put key e c) (put key e u)
+  nil_put : (e : E) (u : List E) → Asc key u → Sub (e ∷ []) (put key e u)
   unfolding put
-  sub-put e (nil {l = []}) a = keep_on nil
-  sub-put e (nil {l = x ∷ u}) a = go (compare_keys (key e) (key x)) (sub-put e (nil {l = u}) a.1)
+  nil_put e [] a = keep_on nil
+  nil_put e (x ∷ u) a = go (compare_keys (key e) (key x)) (nil_put e u a.1)
     where
       go : (o : Ordering) → Sub (e ∷ []) (put key e u) → Sub (e ∷ []) (choose o (e ∷ x ∷ u) (e ∷ u) (x ∷ put key e u))
       go Ordering.lt i = keep_on nil
       go Ordering.eq i = keep_on nil
       go Ordering.gt i = skip i
+
+  pub sub-put : (e : E) {c u : List E} → Sub c u → Asc key u → Sub (put key e c) (put key e u)
+  unfolding put
+  sub-put e (nil {l = l}) a = nil_put e l a
   sub-put e (skip {x = x} {k = c} {l = u} s) a = go (compare_keys (key e) (key x)) refl (sub-put e s a.1)
     where
       front : Over key (key e) u → put key e c ≡ e ∷ c

@@ -101,6 +101,7 @@ apart_head (plain r) l h id f i p q = impossible cc
 -- entries that name an id are one
 apart_one : (l : List Entry) → named_apart l ≡ true → (id : Bytes) (e f : Entry) → In e l → In f l → names_id id e ≡ true
     → names_id id f ≡ true → e ≡ f
+apart_one [] h id e f x5 _ p q = elim x5 [ ]
 apart_one (x ∷ l) h id e f (inl a) (inl b) p q = a ∙ sym b
 apart_one (x ∷ l) h id e f (inl a) (inr j) p q = absurd (apart_head x l h id f j (rw a at p) q)
 apart_one (x ∷ l) h id e f (inr i) (inl b) p q = absurd (apart_head x l h id e i (rw b at q) p)

@@ -22,6 +22,7 @@ kind_at (suc n) = get_elem? ranked n
 
 kind_rank : (k : Kind) → 0 < rank k → kind_at (rank k) ≡ some k
 unfolding kind_at ranked rank
+kind_rank Rattle.model.specs.declared.Kind.TheVariants.LogOffset h = elim h [ ]
 kind_rank BrokerRegistration h = refl
 kind_rank ControllerRegistration h = refl
 kind_rank BrokerConfig h = refl

@@ -46,6 +46,7 @@ module _ {A B : Type 0} (f : B → A → B) where
   -- a step that forgets what came before it
   folded_forgets : (x : A) → ((a b : B) → f a x ≡ f b x) → (l : List A) → In x l → (a b : B) → folded f a l ≡ folded f b l
   unfolding folded
+  folded_forgets x h [] x'' a b = elim x'' [ ]
   folded_forgets x h (y ∷ l) (inl e) a b = ap (λ z. folded f z l) (rw e at (h a b))
   folded_forgets x h (y ∷ l) (inr i) a b = folded_forgets x h l i (f a y) (f b y)
 
