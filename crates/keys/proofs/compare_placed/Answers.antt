@@ -1,0 +1,13 @@
+-- `keys::compare_placed` meets its contract: the partition's number decides where the topics are the same.
+use mathlib.Core.Path.{◌∙◌}
+use Rattle.keys.proofs.Orders.{first_less, first_equal, first_greater}
+use Rattle.keys.proofs.compare_placed.Goals as goal
+
+pub returns-in-Less : goal.returns-in-Less
+returns-in-Less c = first_less _ c.in-Less.is c.compare_field.ensures
+
+pub returns-in-Equal : goal.returns-in-Equal
+returns-in-Equal c = c.compare_partitions.ensures ∙ first_equal _ c.in-Equal.is c.compare_field.ensures
+
+pub returns-in-Greater : goal.returns-in-Greater
+returns-in-Greater c = first_greater _ c.in-Greater.is c.compare_field.ensures

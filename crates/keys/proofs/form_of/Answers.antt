@@ -1,0 +1,114 @@
+-- `keys::form_of` meets its contract: each kind's form computes, and the refused range is past the last kind.
+use Rattle.model.specs.Kind.{kind_of, kinds}
+use Rattle.laws.specs.Refused.{no_kind}
+use Rattle.keys.specs.Forms.{form_of, key_form}
+use Rattle.keys.proofs.Orders.{form_past}
+use Rattle.keys.proofs.form_of.Goals as goal
+
+pub returns-in-1 : goal.returns-in-1
+unfolding form_of kind_of kinds key_form
+returns-in-1 c = rw c.in-1.is
+
+pub returns-in-2 : goal.returns-in-2
+unfolding form_of kind_of kinds key_form
+returns-in-2 c = rw c.in-2.is
+
+pub returns-in-3 : goal.returns-in-3
+unfolding form_of kind_of kinds key_form
+returns-in-3 c = rw c.in-3.is
+
+pub returns-in-4 : goal.returns-in-4
+unfolding form_of kind_of kinds key_form
+returns-in-4 c = rw c.in-4.is
+
+pub returns-in-5 : goal.returns-in-5
+unfolding form_of kind_of kinds key_form
+returns-in-5 c = rw c.in-5.is
+
+pub returns-in-6 : goal.returns-in-6
+unfolding form_of kind_of kinds key_form
+returns-in-6 c = rw c.in-6.is
+
+pub returns-in-7 : goal.returns-in-7
+unfolding form_of kind_of kinds key_form
+returns-in-7 c = rw c.in-7.is
+
+pub returns-in-8 : goal.returns-in-8
+unfolding form_of kind_of kinds key_form
+returns-in-8 c = rw c.in-8.is
+
+pub returns-in-9 : goal.returns-in-9
+unfolding form_of kind_of kinds key_form
+returns-in-9 c = rw c.in-9.is
+
+pub returns-in-10 : goal.returns-in-10
+unfolding form_of kind_of kinds key_form
+returns-in-10 c = rw c.in-10.is
+
+pub returns-in-11 : goal.returns-in-11
+unfolding form_of kind_of kinds key_form
+returns-in-11 c = rw c.in-11.is
+
+pub returns-in-12 : goal.returns-in-12
+unfolding form_of kind_of kinds key_form
+returns-in-12 c = rw c.in-12.is
+
+pub returns-in-13 : goal.returns-in-13
+unfolding form_of kind_of kinds key_form
+returns-in-13 c = rw c.in-13.is
+
+pub returns-in-14 : goal.returns-in-14
+unfolding form_of kind_of kinds key_form
+returns-in-14 c = rw c.in-14.is
+
+pub returns-in-15 : goal.returns-in-15
+unfolding form_of kind_of kinds key_form
+returns-in-15 c = rw c.in-15.is
+
+pub returns-in-16 : goal.returns-in-16
+unfolding form_of kind_of kinds key_form
+returns-in-16 c = rw c.in-16.is
+
+pub returns-in-17 : goal.returns-in-17
+unfolding form_of kind_of kinds key_form
+returns-in-17 c = rw c.in-17.is
+
+pub returns-in-18 : goal.returns-in-18
+unfolding form_of kind_of kinds key_form
+returns-in-18 c = rw c.in-18.is
+
+pub returns-in-19 : goal.returns-in-19
+unfolding form_of kind_of kinds key_form
+returns-in-19 c = rw c.in-19.is
+
+pub returns-in-20 : goal.returns-in-20
+unfolding form_of kind_of kinds key_form
+returns-in-20 c = rw c.in-20.is
+
+pub returns-in-21 : goal.returns-in-21
+unfolding form_of kind_of kinds key_form
+returns-in-21 c = rw c.in-21.is
+
+pub returns-in-22 : goal.returns-in-22
+unfolding form_of kind_of kinds key_form
+returns-in-22 c = rw c.in-22.is
+
+pub returns-in-23 : goal.returns-in-23
+unfolding form_of kind_of kinds key_form
+returns-in-23 c = rw c.in-23.is
+
+pub returns-in-24 : goal.returns-in-24
+unfolding form_of kind_of kinds key_form
+returns-in-24 c = rw c.in-24.is
+
+pub returns-in-25 : goal.returns-in-25
+unfolding form_of kind_of kinds key_form
+returns-in-25 c = rw c.in-25.is
+
+pub returns-in-0 : goal.returns-in-0
+unfolding form_of kind_of kinds key_form
+returns-in-0 c = rw c.in-0.in-0-own.keys26
+
+pub returns-in-0-2 : goal.returns-in-0-2
+returns-in-0-2 c =
+    form_past _ (no_kind _ _ c.in-0.in-0-own.rest)

@@ -1,0 +1,26 @@
+-- `lookup::topic` meets its contract.
+use mathlib.Core.Path.{sym, ◌∙◌}
+use Rattle.find.proofs.Queries.{topic_query}
+use Rattle.lookup_freezes.proofs.Names.{name_fits}
+use Rattle.lookup.proofs.Answers.{topic_no_image, image_is, topic_refused, topic_found}
+use Rattle.lookup.proofs.topic.Goals as goal
+
+pub returns-then-not-is_image : goal.returns-then-not-is_image
+returns-then-not-is_image c =
+    let the_whole = topic_no_image c.args.image.now c.args.out.now c.is_image.ensures c.if-not-is_image.true-raw _ in record { result_value = the_whole.0; out_after = the_whole.1 }
+
+pub returns-then-f-ne0 : goal.returns-then-f-ne0
+returns-then-f-ne0 c =
+    let the_whole = topic_refused c.args.image.now c.args.out.now c.is_image.ensures c.if-not-is_image.false-raw _ c.text_fault-f.ensures c.if-f-ne0.true in record { result_value = the_whole.0; out_after = the_whole.1 }
+
+pub entry-requires : goal.entry-requires
+entry-requires c =
+                (
+      image_is c.args.image.now c.args.image.now c.is_image.ensures c.if-not-is_image.false-raw,
+      topic_query _ (name_fits _ (sym c.if-f-ne0.false ∙ c.text_fault-f.ensures)),
+    )
+
+pub returns : goal.returns
+returns c =
+    let the_whole = topic_found c.args.image.now c.args.out.now c.is_image.ensures c.if-not-is_image.false-raw _
+    (sym c.if-f-ne0.false ∙ c.text_fault-f.ensures) c.entry.ensures in record { result_value = the_whole.0; out_after = the_whole.1 }
