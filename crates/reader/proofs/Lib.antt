@@ -1,5 +1,4 @@
 pub mod Held
 pub mod Only
 pub mod Parts
-pub mod PassedOn
 pub mod Finds
