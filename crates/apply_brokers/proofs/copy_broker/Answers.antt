@@ -36,4 +36,4 @@ copy_in-requires c =
 pub returns : goal.returns
 returns c =
                                 copied _ _ _ c.requires.1 c.find_node-p.ensures (known_bytes c.args.s.now (λ i. omega (arith, c.type_inv.s i))) c.requires.0
-    c.if-end-at.false c.same_value.ensures (not-false _ c.if-not-same_value.false-raw) c.args.b.now _ c.requires.2 c.copy_in.auto.0 c.copy_in.ensures
+    c.if-end-at.false c.same_value.ensures (not-false _ c.if-not-same_value.false-raw) c.args.b.now _ c.requires.2 c.copy_in.auto.b c.copy_in.ensures

@@ -24,7 +24,7 @@ change-size-requires c =
       partition-there _ c.args.w.now c.args.bounds c.copy_partition-n.ensures c.if-n-eq0.false,
       record { is = c.requires.1; kind = c.requires.2 },
       c.copy_partition-n.ensures.fits,
-      omega (arith, c.requires.5, c.copy_partition-n.auto.0),
+      omega (arith, c.requires.5, c.copy_partition-n.auto.b),
     )
 
 pub returns-then-size-eq0 : goal.returns-then-size-eq0

@@ -21,4 +21,4 @@ set_field-requires c =
 pub returns : goal.returns
 returns c =
                     dirs_set c.args.b.now c.args.rec.now c.args.n c.requires.0 c.build-size.ensures c.requires.2 c.requires.3 c.if-size-eq0.false _
-    c.set_field.auto.0 c.set_field.ensures
+    c.set_field.auto.b c.set_field.ensures

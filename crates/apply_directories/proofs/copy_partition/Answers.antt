@@ -28,4 +28,4 @@ pub returns : goal.returns
 returns c =
                                 copied _ _ c.requires.1 _ _ _ _ c.value_at-p.ensures c.value_at-q.ensures c.find-place.ensures
     (known_bytes c.args.s.now (λ i. omega (arith, c.type_inv.s i))) c.requires.0 c.if-end-at.false c.args.b.now _ c.requires.2
-    c.copy_in.auto.0 c.copy_in.ensures
+    c.copy_in.auto.b c.copy_in.ensures

@@ -14,29 +14,29 @@ next-requires c = (c.loop-t.invariant.order, omega (arith, c.loop-t.invariant.la
 pub returns-then-tag-t : goal.returns-then-tag-t
 returns-then-tag-t c =
     let bytes_in : AreBytes c.args.s.now = known_bytes c.args.s.now (λ i. omega (arith, c.type_inv.s i)) in
-    let step : (let f = c.t-1.given.0 in Moved c.loop-t.c c.in-Field.t c.in-Field.start c.in-Field.len c.in-Field.next) = moved c.in-Field.is c.next.ensures.1 in
+    let step : (Moved c.loop-t.c c.in-Field.t c.in-Field.start c.in-Field.len c.in-Field.next) = moved c.in-Field.is c.next.ensures.1 in
     spot_past _ _ _ c.loop-t.invariant bytes_in _ _ _ _ step _ (took _ c.next.ensures.0 c.in-Field.is) c.if-tag-t.true
 
 pub overflow_add-result : goal.overflow_add-result
 overflow_add-result c =
-    let step : (let f = c.t-1.given.0 in Moved c.loop-t.c c.in-Field.t c.in-Field.start c.in-Field.len c.in-Field.next) = moved c.in-Field.is c.next.ensures.1 in
+    let step : (Moved c.loop-t.c c.in-Field.t c.in-Field.start c.in-Field.len c.in-Field.next) = moved c.in-Field.is c.next.ensures.1 in
     let m = step in omega (arith, m.part, m.most, c.loop-t.invariant.last)
 
 pub returns-then-t-tag : goal.returns-then-t-tag
 returns-then-t-tag c =
     let bytes_in : AreBytes c.args.s.now = known_bytes c.args.s.now (λ i. omega (arith, c.type_inv.s i)) in
-    let step : (let f = c.t-1.given.0 in Moved c.loop-t.c c.in-Field.t c.in-Field.start c.in-Field.len c.in-Field.next) = moved c.in-Field.is c.next.ensures.1 in
+    let step : (Moved c.loop-t.c c.in-Field.t c.in-Field.start c.in-Field.len c.in-Field.next) = moved c.in-Field.is c.next.ensures.1 in
     spot_at _ _ _ c.loop-t.invariant bytes_in _ _ _ _ step _ (took _ c.next.ensures.0 c.in-Field.is) c.if-t-tag.true
 
 pub loop-t-smaller : goal.loop-t-smaller
 loop-t-smaller c =
-    let step : (let f = c.t-1.given.0 in Moved c.loop-t.c c.in-Field.t c.in-Field.start c.in-Field.len c.in-Field.next) = moved c.in-Field.is c.next.ensures.1 in
+    let step : (Moved c.loop-t.c c.in-Field.t c.in-Field.start c.in-Field.len c.in-Field.next) = moved c.in-Field.is c.next.ensures.1 in
     let m = step in omega (arith, m.onward, m.most, m.ends)
 
 pub loop-t-preserved : goal.loop-t-preserved
 loop-t-preserved c =
     let bytes_in : AreBytes c.args.s.now = known_bytes c.args.s.now (λ i. omega (arith, c.type_inv.s i)) in
-    let step : (let f = c.t-1.given.0 in Moved c.loop-t.c c.in-Field.t c.in-Field.start c.in-Field.len c.in-Field.next) = moved c.in-Field.is c.next.ensures.1 in
+    let step : (Moved c.loop-t.c c.in-Field.t c.in-Field.start c.in-Field.len c.in-Field.next) = moved c.in-Field.is c.next.ensures.1 in
     ahead_turn _ _ _ c.loop-t.invariant bytes_in _ _ _ _ step _ (took _ c.next.ensures.0 c.in-Field.is)
     c.if-tag-t.false c.if-t-tag.false
 

@@ -31,7 +31,7 @@ shift-requires c =
 pub put_field-requires : goal.put_field-requires
 put_field-requires c =
     let here : (let a = c.args in Gap a.b.now a.v.now a.n a.tag c.place_of-p.result.start c.place_of-p.result.end) = gap _ _ _ _ _ _ c.requires.0 c.size.ensures.0 c.place_of-p.ensures in
-    omega (arith, here.most, c.shift.auto.0)
+    omega (arith, here.most, c.shift.auto.w)
 
 pub overflow_add-size : goal.overflow_add-size
 overflow_add-size c =
@@ -44,4 +44,4 @@ returns c =
     let g = here in
     let m = c.shift in
     let f = c.put_field in
-    (field-set g m.ensures f.ensures _ (omega (arith, f.auto.0, m.auto.0)) c.put_head.ensures, g.most)
+    (field-set g m.ensures f.ensures _ (omega (arith, f.auto.out, m.auto.w)) c.put_head.ensures, g.most)

@@ -24,5 +24,5 @@ pub returns : goal.returns
 returns c =
     let bytes_in : AreBytes c.args.rec.now = known_bytes c.args.rec.now (λ i. omega (arith, c.type_inv.rec i)) in
     group_written c.args.rec.now bytes_in c.requires.0 c.requires.1 _ c.leading_end-n.ensures c.args.b.now c.copy.new.dst
-    c.put.new.s c.copy-2.new.dst c.put-2.new.s c.requires.2 c.copy.ensures c.copy.auto.0 c.put.ensures c.put.auto.0
-    c.copy-2.ensures c.copy-2.auto.0 c.put-2.ensures
+    c.put.new.s c.copy-2.new.dst c.put-2.new.s c.requires.2 c.copy.ensures c.copy.auto.dst c.put.ensures c.put.auto.s
+    c.copy-2.ensures c.copy-2.auto.dst c.put-2.ensures

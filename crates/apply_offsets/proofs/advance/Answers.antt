@@ -15,7 +15,7 @@ sum_of-sum-requires c =
 
 pub slice_bounds-set-end-2 : goal.slice_bounds-set-end-2
 slice_bounds-set-end-2 c =
-            sym (length-take-le _ c.draft-n.new.b (omega (arith, c.draft-n.ensures.1, c.draft-n.auto.0, c.requires.4)))
+            sym (length-take-le _ c.draft-n.new.b (omega (arith, c.draft-n.ensures.1, c.draft-n.auto.b, c.requires.4)))
 
 pub set-requires : goal.set-requires
 set-requires c =

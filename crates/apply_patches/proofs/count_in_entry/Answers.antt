@@ -39,7 +39,7 @@ overflow_sub-n-then-is_topic_with-2 c =
 pub put-requires-then-is_topic_with : goal.put-requires-then-is_topic_with
 put-requires-then-is_topic_with c =
     let long : 20 ≤ length c.args.e.now = numbers_there c.requires.0 _ _ c.is_topic_with.ensures c.if-is_topic_with.true in
-    omega (arith, long, c.put.auto.0)
+    omega (arith, long, c.put.auto.s)
 
 pub returns-then-is_topic_with : goal.returns-then-is_topic_with
 returns-then-is_topic_with c =

@@ -31,7 +31,7 @@ is_light-requires c =
       made.1.good,
       ascends-after a.w.now c.make.new.w a.state _ a.capacity c.requires.0 a.rec.now c.requires.1 rec made,
       capacity_fits a.w.now a.state a.capacity c.requires.0,
-      omega (arith, c.requires.2, c.make.auto.0),
+      omega (arith, c.requires.2, c.make.auto.w),
     )
 
 pub returns-then-not-is_light : goal.returns-then-not-is_light

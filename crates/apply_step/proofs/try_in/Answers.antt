@@ -29,7 +29,7 @@ step-requires c =
           c.load-bounds.ensures c.epoch_in.ensures c.kraft_in.ensures
           c.offset_in.ensures,
       c.requires.1,
-      omega (arith, c.requires.2, c.load-bounds.auto.0),
+      omega (arith, c.requires.2, c.load-bounds.auto.w),
       c.requires.3,
       c.requires.4,
     )

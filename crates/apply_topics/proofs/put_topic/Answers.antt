@@ -18,11 +18,11 @@ value_at-p-requires c = logged-headed _ c.requires.1
 
 pub slice_bounds-put_real-end : goal.slice_bounds-put_real-end
 slice_bounds-put_real-end c =
-        omega (arith, c.topic_record-n.ensures.1, c.topic_record-n.auto.0)
+        omega (arith, c.topic_record-n.ensures.1, c.topic_record-n.auto.b)
 
 pub slice_bounds-put_real-end-2 : goal.slice_bounds-put_real-end-2
 slice_bounds-put_real-end-2 c =
-        sym (length-take-le _ _ (omega (arith, c.topic_record-n.ensures.1, c.topic_record-n.auto.0)))
+        sym (length-take-le _ _ (omega (arith, c.topic_record-n.ensures.1, c.topic_record-n.auto.b)))
 
 pub put_real-requires : goal.put_real-requires
 put_real-requires c =

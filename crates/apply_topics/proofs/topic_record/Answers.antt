@@ -11,7 +11,7 @@ copy_in-n-requires c =
 pub set_field-m-requires : goal.set_field-m-requires
 set_field-m-requires c =
         (
-      omega (arith, c.copy_in-n.ensures.0, c.copy_in-n.auto.0, logged_size _ c.requires.0 c.requires.1, c.requires.2),
+      omega (arith, c.copy_in-n.ensures.0, c.copy_in-n.auto.b, logged_size _ c.requires.0 c.requires.1, c.requires.2),
       omega arith,
       copied_draft _ c.requires.0 c.requires.1 c.copy_in-n.new.b c.copy_in-n.result c.copy_in-n.ensures.1,
     )
@@ -19,7 +19,7 @@ set_field-m-requires c =
 pub set_field-requires : goal.set_field-requires
 set_field-requires c =
                 (
-      omega (arith, c.copy_in-n.ensures.0, c.copy_in-n.auto.0, c.set_field-m.ensures.1, c.set_field-m.auto.0, logged_size _ c.requires.0 c.requires.1, c.requires.2),
+      omega (arith, c.copy_in-n.ensures.0, c.copy_in-n.auto.b, c.set_field-m.ensures.1, c.set_field-m.auto.b, logged_size _ c.requires.0 c.requires.1, c.requires.2),
       omega arith,
       counted_draft _ c.requires.0 c.requires.1 c.copy_in-n.new.b c.copy_in-n.result c.copy_in-n.ensures.1 c.args.count _ c.put.ensures
           c.set_field-m.new.b c.set_field-m.result c.set_field-m.ensures.0,

@@ -16,7 +16,7 @@ returns-then-not-has c =
 pub slice_bounds-set-end-2 : goal.slice_bounds-set-end-2
 slice_bounds-set-end-2 c =
     let e = c.recovery_record-n in
-    sym (length-take-le _ e.new.b (omega (arith, e.ensures.1, e.auto.0, c.requires.3)))
+    sym (length-take-le _ e.new.b (omega (arith, e.ensures.1, e.auto.b, c.requires.3)))
 
 pub set-requires : goal.set-requires
 set-requires c =

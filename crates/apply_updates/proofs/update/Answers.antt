@@ -12,7 +12,7 @@ use Rattle.apply_updates.proofs.update.Goals as goal
 pub slice_bounds-put_partition-end-2 : goal.slice_bounds-put_partition-end-2
 slice_bounds-put_partition-end-2 c =
         let r = c.partition_record-n in
-    sym (length-take-le _ r.new.b (omega (arith, r.ensures.1, r.auto.0, c.requires.5)))
+    sym (length-take-le _ r.new.b (omega (arith, r.ensures.1, r.auto.b, c.requires.5)))
 
 pub put_partition-placed-requires : goal.put_partition-placed-requires
 put_partition-placed-requires c =
@@ -28,8 +28,8 @@ set_recovery-requires c =
         let few = elr_one (record_in c.args.rec.now).run in (
       e.ensures.good,
       record { is = c.requires.1; kind = c.requires.2 },
-      omega (arith, few, e.ensures.most, m.ensures.most, e.auto.0, m.auto.0, c.requires.4),
-      omega (arith, e.auto.1, r.auto.0, c.requires.5),
+      omega (arith, few, e.ensures.most, m.ensures.most, e.auto.w, m.auto.w, c.requires.4),
+      omega (arith, e.auto.b, r.auto.b, c.requires.5),
     )
 
 pub returns : goal.returns

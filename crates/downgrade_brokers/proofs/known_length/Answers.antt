@@ -11,22 +11,22 @@ next-requires c = inside c.loop-tag.invariant.ahead
 
 pub known_size-n-requires : goal.known_size-n-requires
 known_size-n-requires c =
-    let step : (let f = c.tag-1.given.0 in Moved c.loop-tag.c c.in-Field.tag c.in-Field.start c.in-Field.len c.in-Field.next) = moved c.in-Field.is c.next.ensures.1 in
+    let step : (Moved c.loop-tag.c c.in-Field.tag c.in-Field.start c.in-Field.len c.in-Field.next) = moved c.in-Field.is c.next.ensures.1 in
     step.short
 
 pub overflow_add-n : goal.overflow_add-n
 overflow_add-n c =
-    let step : (let f = c.tag-1.given.0 in Moved c.loop-tag.c c.in-Field.tag c.in-Field.start c.in-Field.len c.in-Field.next) = moved c.in-Field.is c.next.ensures.1 in
+    let step : (Moved c.loop-tag.c c.in-Field.tag c.in-Field.start c.in-Field.len c.in-Field.next) = moved c.in-Field.is c.next.ensures.1 in
     let fits = count_fits_lem c.loop-tag.invariant step (took _ c.next.ensures.0 c.in-Field.is) c.known_size-n.ensures in omega arith
 
 pub loop-tag-smaller : goal.loop-tag-smaller
 loop-tag-smaller c =
-    let step : (let f = c.tag-1.given.0 in Moved c.loop-tag.c c.in-Field.tag c.in-Field.start c.in-Field.len c.in-Field.next) = moved c.in-Field.is c.next.ensures.1 in
+    let step : (Moved c.loop-tag.c c.in-Field.tag c.in-Field.start c.in-Field.len c.in-Field.next) = moved c.in-Field.is c.next.ensures.1 in
     falls c.loop-tag.invariant.ahead step
 
 pub loop-tag-preserved : goal.loop-tag-preserved
 loop-tag-preserved c =
-    let step : (let f = c.tag-1.given.0 in Moved c.loop-tag.c c.in-Field.tag c.in-Field.start c.in-Field.len c.in-Field.next) = moved c.in-Field.is c.next.ensures.1 in
+    let step : (Moved c.loop-tag.c c.in-Field.tag c.in-Field.start c.in-Field.len c.in-Field.next) = moved c.in-Field.is c.next.ensures.1 in
     count_turn c.loop-tag.invariant step (took _ c.next.ensures.0 c.in-Field.is) c.known_size-n.ensures
 
 pub returns-in-Torn : goal.returns-in-Torn

@@ -13,32 +13,32 @@ next-requires c = inside c.loop-tag.invariant.ahead
 
 pub overflow_add-end : goal.overflow_add-end
 overflow_add-end c =
-    let step : (let f = c.tag-1.given.0 in Moved c.loop-tag.c c.in-Field.tag c.in-Field.start c.in-Field.len c.in-Field.next) = moved c.in-Field.is c.next.ensures.1 in
+    let step : (Moved c.loop-tag.c c.in-Field.tag c.in-Field.start c.in-Field.len c.in-Field.next) = moved c.in-Field.is c.next.ensures.1 in
     omega (arith, ends_inside c.loop-tag.invariant.ahead step)
 
 pub slice_bounds-put_known-start : goal.slice_bounds-put_known-start
 slice_bounds-put_known-start c =
-    let step : (let f = c.tag-1.given.0 in Moved c.loop-tag.c c.in-Field.tag c.in-Field.start c.in-Field.len c.in-Field.next) = moved c.in-Field.is c.next.ensures.1 in
+    let step : (Moved c.loop-tag.c c.in-Field.tag c.in-Field.start c.in-Field.len c.in-Field.next) = moved c.in-Field.is c.next.ensures.1 in
     omega (arith, ends_inside c.loop-tag.invariant.ahead step)
 
 pub slice_bounds-put_known-end : goal.slice_bounds-put_known-end
 slice_bounds-put_known-end c =
-    let step : (let f = c.tag-1.given.0 in Moved c.loop-tag.c c.in-Field.tag c.in-Field.start c.in-Field.len c.in-Field.next) = moved c.in-Field.is c.next.ensures.1 in
+    let step : (Moved c.loop-tag.c c.in-Field.tag c.in-Field.start c.in-Field.len c.in-Field.next) = moved c.in-Field.is c.next.ensures.1 in
     omega (arith, ends_inside c.loop-tag.invariant.ahead step)
 
 pub put_known-to-requires : goal.put_known-to-requires
 put_known-to-requires c =
-    let step : (let f = c.tag-1.given.0 in Moved c.loop-tag.c c.in-Field.tag c.in-Field.start c.in-Field.len c.in-Field.next) = moved c.in-Field.is c.next.ensures.1 in
+    let step : (Moved c.loop-tag.c c.in-Field.tag c.in-Field.start c.in-Field.len c.in-Field.next) = moved c.in-Field.is c.next.ensures.1 in
     (step.byte, known_fits c.loop-tag.invariant step (took _ c.next.ensures.0 c.in-Field.is))
 
 pub loop-tag-smaller : goal.loop-tag-smaller
 loop-tag-smaller c =
-    let step : (let f = c.tag-1.given.0 in Moved c.loop-tag.c c.in-Field.tag c.in-Field.start c.in-Field.len c.in-Field.next) = moved c.in-Field.is c.next.ensures.1 in
+    let step : (Moved c.loop-tag.c c.in-Field.tag c.in-Field.start c.in-Field.len c.in-Field.next) = moved c.in-Field.is c.next.ensures.1 in
     falls c.loop-tag.invariant.ahead step
 
 pub loop-tag-preserved : goal.loop-tag-preserved
 loop-tag-preserved c =
-    let step : (let f = c.tag-1.given.0 in Moved c.loop-tag.c c.in-Field.tag c.in-Field.start c.in-Field.len c.in-Field.next) = moved c.in-Field.is c.next.ensures.1 in
+    let step : (Moved c.loop-tag.c c.in-Field.tag c.in-Field.start c.in-Field.len c.in-Field.next) = moved c.in-Field.is c.next.ensures.1 in
     write_turn c.loop-tag.invariant step (took _ c.next.ensures.0 c.in-Field.is) c.put_known-to.ensures
 
 pub shape_of-out-in-Torn : goal.shape_of-out-in-Torn

@@ -12,5 +12,5 @@ returns c =
         let p = c.requires in
     let place = c.seek-p.ensures in
     let spliced = c.splice in
-    put_changed c.args.w.now spliced.new.w c.args.rec.now c.args.from c.args.to c.args.used _ _ _ p.0 p.1 p.2 spliced.auto.0 p.4
+    put_changed c.args.w.now spliced.new.w c.args.rec.now c.args.from c.args.to c.args.used _ _ _ p.0 p.1 p.2 spliced.auto.w p.4
     place spliced.ensures

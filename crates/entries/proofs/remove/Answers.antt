@@ -13,5 +13,5 @@ returns c =
         let p = c.requires in
     let place = c.seek-p.ensures in
     let spliced = c.splice in
-    remove_changed c.args.w.now spliced.new.w _ _ c.args.from c.args.to c.args.used _ _ _ p.0 p.1 p.2 spliced.auto.0 refl
+    remove_changed c.args.w.now spliced.new.w _ _ c.args.from c.args.to c.args.used _ _ _ p.0 p.1 p.2 spliced.auto.w refl
     place spliced.ensures

@@ -13,7 +13,7 @@ slice_bounds-put_field-end-in-Fields c =
 pub emit_broker-requires : goal.emit_broker-requires
 emit_broker-requires c =
             let a = c.args in
-    (omega (arith, producers-end a.s.now a.out.now a.at c.read_broker.result c.read_broker.ensures c.in-Fields.is), omega (arith, c.put_field.auto.0))
+    (omega (arith, producers-end a.s.now a.out.now a.at c.read_broker.result c.read_broker.ensures c.in-Fields.is), omega (arith, c.put_field.auto.out))
 
 pub returns-in-Refused : goal.returns-in-Refused
 returns-in-Refused c =

@@ -9,7 +9,7 @@ returns-then-out-end c = let a = c.args in message-short a.key a.first.now a.sec
 
 pub shape_of-out : goal.shape_of-out
 shape_of-out c =
-                    simp length-set (omega (arith, c.copy-3.auto.0, c.copy-2.auto.0, c.copy.auto.0, c.put_frame.auto.0))
+                    simp length-set (omega (arith, c.copy-3.auto.dst, c.copy-2.auto.dst, c.copy.auto.dst, c.put_frame.auto.out))
 
 pub returns : goal.returns
 returns c =

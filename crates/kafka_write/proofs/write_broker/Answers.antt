@@ -9,7 +9,7 @@ returns-then-broker-ge-HALF c = let a = c.args in broker_large a.s.now a.out.now
 pub emit-requires : goal.emit-requires
 emit-requires c =
                     let a = c.args in (
-      omega (arith, c.put.auto.0),
+      omega (arith, c.put.auto.s),
       part_fits a.s.now 2 _ _ c.value_at-epoch.ensures 255 c.requires.1.1,
       part_fits a.s.now 3 _ _ c.value_at-next.ensures 255 c.requires.1.2,
     )

@@ -23,7 +23,7 @@ slice_bounds-emit-end c =
 pub emit-requires : goal.emit-requires
 emit-requires c =
                 let a = c.args in (
-      simp length-take (omega (arith, c.put_varint-n.auto.0)),
+      simp length-take (omega (arith, c.put_varint-n.auto.out)),
       part_fits a.s.now 1 _ _ c.value_at-name.ensures 255 c.requires.1.0,
       part_fits a.s.now 2 _ _ c.value_at-rest.ensures 255 c.requires.1.1,
     )

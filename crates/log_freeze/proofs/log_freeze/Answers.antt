@@ -20,7 +20,7 @@ pub emit_noted-requires : goal.emit_noted-requires
 emit_noted-requires c =
     let right : 0 ≡ text_fault string_limit c.args.name.now = sym c.if-f-ne0.false ∙ c.text_fault-f.ensures in
     let noted : ( let a = c.args in Noted a.run.now a.name.now c.note_all.new.slots) = subst (PassAs _ _ c.note_all.new.slots) c.in-Done.is c.note_all.ensures in
-    (noted, c.note_all.auto.0, name_fits _ right)
+    (noted, c.note_all.auto.slots, name_fits _ right)
 
 pub returns-in-Stopped : goal.returns-in-Stopped
 returns-in-Stopped c =

@@ -62,7 +62,7 @@ loop-at-preserved c =
     let turn = turned a.run.now a.name.now c.requires.1 c.loop-at.at it.0 _ it.1 c.loop-at.slots c.loop-at.invariant.1 c.loop-at.invariant.0 it.2 in
     let same = part-noted a.run.now bytes_in c.loop-at.at it.0 _ it.1 a.name.now c.loop-at.slots in (
       subst (Reached a.run.now a.name.now _) (sym c.note.ensures) (subst (Reached a.run.now a.name.now _) (sym same) turn),
-      omega (arith, c.note.auto.0, c.loop-at.invariant.1),
+      omega (arith, c.note.auto.slots, c.loop-at.invariant.1),
     )
 
 pub shape_of-slots : goal.shape_of-slots

@@ -68,7 +68,7 @@ loop-n-preserved c =
     let i = c.loop-n.invariant in
     let turn = c.turn_both in (
       turned _ a.one.now a.other.now _ _ _ _ _ _ i.0 turn.new.first turn.new.second.0 _ turn.ensures c.in-On.is,
-      omega (arith, i.1, turn.auto.1.1.0),
+      omega (arith, i.1, turn.auto.second.1.0),
     )
 
 pub shape_of-first-in-Parted : goal.shape_of-first-in-Parted

@@ -41,7 +41,7 @@ loop-i-preserved c =
     let l = c.loop-i.invariant in
     let h = c.loop-i-test.true in
     let p = c.put_field in
-    (omega (arith, p.auto.0), omega arith, left_after l.2 h p.auto.0, field-written l.2 h p.ensures ∙ l.3)
+    (omega (arith, p.auto.out), omega arith, left_after l.2 h p.auto.out, field-written l.2 h p.ensures ∙ l.3)
 
 pub shape_of-out : goal.shape_of-out
 shape_of-out c = c.loop-i.invariant.0

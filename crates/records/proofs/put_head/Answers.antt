@@ -9,7 +9,7 @@ pub put-requires : goal.put-requires
 put-requires c = simp length-set (omega arith)
 
 pub shape_of-out : goal.shape_of-out
-shape_of-out c = let a = c.args in omega (arith, c.put.auto.0, length-set a.out.now a.at a.first)
+shape_of-out c = let a = c.args in omega (arith, c.put.auto.s, length-set a.out.now a.at a.first)
 
 pub returns : goal.returns
 returns c =

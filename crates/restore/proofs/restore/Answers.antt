@@ -16,16 +16,16 @@ rebuild-requires c =
 
 pub returns-then-rebuild : goal.returns-then-rebuild
 returns-then-rebuild c =
-    let the_whole = copied c.args.image.now c.args.input.now c.is_capacity.ensures c.if-not-is_capacity.false-raw _ c.rebuild.auto.0
+    let the_whole = copied c.args.image.now c.args.input.now c.is_capacity.ensures c.if-not-is_capacity.false-raw _ c.rebuild.auto.image
     c.rebuild.ensures c.if-rebuild.true in record { result_value = the_whole.0; image_after = the_whole.1 }
 
 pub restore_each-requires : goal.restore_each-requires
 restore_each-requires c =
                 (
-      capacity-kept c.args.image.now c.args.input.now c.is_capacity.ensures c.if-not-is_capacity.false-raw c.rebuild.new.image c.rebuild.auto.0,
-      omega (arith, c.rebuild.auto.1.0),
+      capacity-kept c.args.image.now c.args.input.now c.is_capacity.ensures c.if-not-is_capacity.false-raw c.rebuild.new.image c.rebuild.auto.image,
+      omega (arith, c.rebuild.auto.w.0),
     )
 
 pub returns : goal.returns
 returns c =
-    let the_whole = each c.args.image.now c.args.input.now c.is_capacity.ensures c.if-not-is_capacity.false-raw _ c.rebuild.auto.0 c.restore_each.ensures in record { result_value = the_whole.0; image_after = the_whole.1 }
+    let the_whole = each c.args.image.now c.args.input.now c.is_capacity.ensures c.if-not-is_capacity.false-raw _ c.rebuild.auto.image c.restore_each.ensures in record { result_value = the_whole.0; image_after = the_whole.1 }

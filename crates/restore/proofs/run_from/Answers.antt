@@ -37,22 +37,22 @@ loop-at-preserved c =
         let a = c.args in
     let next = c.next_record in (
       turned a.capacity a.input.now _ _ c.loop-at.state c.loop-at.invariant.0 next.new.w _ next.ensures c.in-Moved.is,
-      omega (arith, c.loop-at.invariant.1, next.auto.0),
-      omega (arith, c.loop-at.invariant.2, next.auto.1.0),
-      omega (arith, c.loop-at.invariant.3, next.auto.1.1.0),
+      omega (arith, c.loop-at.invariant.1, next.auto.w),
+      omega (arith, c.loop-at.invariant.2, next.auto.a.0),
+      omega (arith, c.loop-at.invariant.3, next.auto.a.1.0),
     )
 
 pub shape_of-w-in-Unread : goal.shape_of-w-in-Unread
 shape_of-w-in-Unread c =
-            omega (arith, c.loop-at.invariant.1, c.next_record.auto.0)
+            omega (arith, c.loop-at.invariant.1, c.next_record.auto.w)
 
 pub shape_of-a-in-Unread : goal.shape_of-a-in-Unread
 shape_of-a-in-Unread c =
-            omega (arith, c.loop-at.invariant.2, c.next_record.auto.1.0)
+            omega (arith, c.loop-at.invariant.2, c.next_record.auto.a.0)
 
 pub shape_of-b-in-Unread : goal.shape_of-b-in-Unread
 shape_of-b-in-Unread c =
-            omega (arith, c.loop-at.invariant.3, c.next_record.auto.1.1.0)
+            omega (arith, c.loop-at.invariant.3, c.next_record.auto.a.1.0)
 
 pub returns-in-Unread : goal.returns-in-Unread
 returns-in-Unread c =
@@ -62,15 +62,15 @@ returns-in-Unread c =
 
 pub shape_of-w-in-Refused : goal.shape_of-w-in-Refused
 shape_of-w-in-Refused c =
-            omega (arith, c.loop-at.invariant.1, c.next_record.auto.0)
+            omega (arith, c.loop-at.invariant.1, c.next_record.auto.w)
 
 pub shape_of-a-in-Refused : goal.shape_of-a-in-Refused
 shape_of-a-in-Refused c =
-            omega (arith, c.loop-at.invariant.2, c.next_record.auto.1.0)
+            omega (arith, c.loop-at.invariant.2, c.next_record.auto.a.0)
 
 pub shape_of-b-in-Refused : goal.shape_of-b-in-Refused
 shape_of-b-in-Refused c =
-            omega (arith, c.loop-at.invariant.3, c.next_record.auto.1.1.0)
+            omega (arith, c.loop-at.invariant.3, c.next_record.auto.a.1.0)
 
 pub returns-in-Refused : goal.returns-in-Refused
 returns-in-Refused c =

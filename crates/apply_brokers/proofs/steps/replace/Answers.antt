@@ -8,4 +8,4 @@ set_field-requires c =
 
 pub returns : goal.returns
 returns c =
-            field-set c.requires.0 c.args.tag c.args.v.now c.requires.1 c.set_field.auto.0 c.set_field.ensures
+            field-set c.requires.0 c.args.tag c.args.v.now c.requires.1 c.set_field.auto.b c.set_field.ensures

@@ -22,4 +22,4 @@ fill-requires c =
 pub returns : goal.returns
 returns c =
                             dirs_built _ _ c.requires.0 c.requires.1 c.slot_in-s.ensures c.if-count-slot.false _ _ _ _ c.value_at-p.ensures c.value_at-q.ensures
-    c.fill.new.dirs (omega (arith, c.requires.2, c.fill.auto.0)) c.fill.ensures
+    c.fill.new.dirs (omega (arith, c.requires.2, c.fill.auto.dirs)) c.fill.ensures

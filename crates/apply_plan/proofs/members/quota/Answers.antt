@@ -14,11 +14,11 @@ sort_entities-n-requires c =
 
 pub slice_bounds-member-end : goal.slice_bounds-member-end
 slice_bounds-member-end c =
-            omega (arith, c.sort_entities-n.ensures.1, c.sort_entities-n.auto.0, record-size _ c.requires.1, c.requires.4)
+            omega (arith, c.sort_entities-n.ensures.1, c.sort_entities-n.auto.b, record-size _ c.requires.1, c.requires.4)
 
 pub slice_bounds-member-end-2 : goal.slice_bounds-member-end-2
 slice_bounds-member-end-2 c =
-            sym (length-take-le _ _ (omega (arith, c.sort_entities-n.ensures.1, c.sort_entities-n.auto.0, record-size _ c.requires.1, c.requires.4)))
+            sym (length-take-le _ _ (omega (arith, c.sort_entities-n.ensures.1, c.sort_entities-n.auto.b, record-size _ c.requires.1, c.requires.4)))
 
 pub member-requires : goal.member-requires
 member-requires c =

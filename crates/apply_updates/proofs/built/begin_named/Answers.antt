@@ -22,7 +22,7 @@ set_field-m-requires c =
     let a = c.nested_at-p in
         let s = c.args.rec.now in
     step_asks bare (lent s (value 1 (partition_of (run_in s))) a.result.start a.result.end a.ensures) 255 (name_short s c.requires.0) (lit< tt)
-    (omega (arith, c.begin-n.auto.0, c.requires.1))
+    (omega (arith, c.begin-n.auto.b, c.requires.1))
 
 pub set_field-requires : goal.set_field-requires
 set_field-requires c =
@@ -31,7 +31,7 @@ set_field-requires c =
     let a = c.nested_at-q in
         let s = c.args.rec.now in
     step_asks with-name (lent s (value 2 (partition_of (run_in s))) a.result.start a.result.end a.ensures) 4 (number_short s c.requires.0) (lit< tt)
-    (omega (arith, c.set_field-m.auto.0, c.begin-n.auto.0, c.requires.1))
+    (omega (arith, c.set_field-m.auto.b, c.begin-n.auto.b, c.requires.1))
 
 pub returns : goal.returns
 returns c =

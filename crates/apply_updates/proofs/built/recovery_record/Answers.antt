@@ -13,7 +13,7 @@ pub copy_field-requires : goal.copy_field-requires
 copy_field-requires c =
     let begun : Upto 268 c.begin_named-n.new.b c.begin_named-n.result 22 (named_of (run_in c.args.rec.now)) = named_draft c.args.rec.now c.requires.0 c.begin_named-n.new.b c.begin_named-n.result 22 c.begin_named-n.ensures in
     let s = c.args.rec.now in
-    let q = step_asks begun {v = value 4 (run_in s)} refl 1 (state_short s c.requires.0) (lit< tt) (omega (arith, c.begin_named-n.auto.0, c.requires.1)) in
+    let q = step_asks begun {v = value 4 (run_in s)} refl 1 (state_short s c.requires.0) (lit< tt) (omega (arith, c.begin_named-n.auto.b, c.requires.1)) in
     (update_headed s c.requires.0, q.0, q.1, q.2)
 
 pub returns : goal.returns

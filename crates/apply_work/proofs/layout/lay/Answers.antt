@@ -19,4 +19,4 @@ pub returns : goal.returns
 returns c =
     let bytes_in : AreBytes c.args.w.now = known_bytes c.args.w.now (λ i. omega (arith, c.type_inv.w i)) in
     laid bytes_in c.requires.0 c.args.image.now c.requires.1 c.copy.new.dst c.clear.new.s
-    c.copy.ensures c.copy.auto.0 c.clear.ensures _ c.put_header.ensures
+    c.copy.ensures c.copy.auto.dst c.clear.ensures _ c.put_header.ensures

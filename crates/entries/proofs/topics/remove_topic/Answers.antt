@@ -127,4 +127,4 @@ returns-in-End c =
     let p = c.requires in
     let last = c.splice-in-End in
     closed within c.loop-start.invariant (ended _ bytes_in _ c.loop-start.invariant.entries c.next.ensures c.in-End.is)
-    p.1 p.2 last.auto.0 refl last.ensures
+    p.1 p.2 last.auto.w refl last.ensures

@@ -16,12 +16,12 @@ returns-then-tag-ne1 c =
 
 pub overflow_add-end : goal.overflow_add-end
 overflow_add-end c =
-    let found : (let g = c.tag-1.given.0 in Stands c.args.e.now c.loop-tag.c c.in-Field.start (c.in-Field.start + c.in-Field.len) c.in-Field.next) = entity c.loop-tag.invariant c.next.ensures c.in-Field.is c.if-tag-ne1.false in
+    let found : ( Stands c.args.e.now c.loop-tag.c c.in-Field.start (c.in-Field.start + c.in-Field.len) c.in-Field.next) = entity c.loop-tag.invariant c.next.ensures c.in-Field.is c.if-tag-ne1.false in
     let t = found in omega (arith, t.most)
 
 pub is_below-requires : goal.is_below-requires
 is_below-requires c =
-    let found : (let g = c.tag-1.given.0 in Stands c.args.e.now c.loop-tag.c c.in-Field.start (c.in-Field.start + c.in-Field.len) c.in-Field.next) = entity c.loop-tag.invariant c.next.ensures c.in-Field.is c.if-tag-ne1.false in
+    let found : ( Stands c.args.e.now c.loop-tag.c c.in-Field.start (c.in-Field.start + c.in-Field.len) c.in-Field.next) = entity c.loop-tag.invariant c.next.ensures c.in-Field.is c.if-tag-ne1.false in
     let t = found in
     let l = c.loop-tag.invariant.before in
     ((omega (arith, t.forward), omega (arith, t.most)), (omega (arith, t.forward), omega (arith, t.most)))
@@ -33,7 +33,7 @@ returns-then-is_below c =
 
 pub loop-tag-smaller : goal.loop-tag-smaller
 loop-tag-smaller c =
-    let found : (let g = c.tag-1.given.0 in Stands c.args.e.now c.loop-tag.c c.in-Field.start (c.in-Field.start + c.in-Field.len) c.in-Field.next) = entity c.loop-tag.invariant c.next.ensures c.in-Field.is c.if-tag-ne1.false in
+    let found : ( Stands c.args.e.now c.loop-tag.c c.in-Field.start (c.in-Field.start + c.in-Field.len) c.in-Field.next) = entity c.loop-tag.invariant c.next.ensures c.in-Field.is c.if-tag-ne1.false in
     let t = found in omega (arith, t.onwards, t.ends, t.inside)
 
 pub loop-tag-preserved : goal.loop-tag-preserved

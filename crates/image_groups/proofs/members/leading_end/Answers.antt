@@ -17,13 +17,13 @@ returns-then-tag-ne1 c =
 
 pub loop-tag-smaller : goal.loop-tag-smaller
 loop-tag-smaller c =
-    let step : (let f = c.tag-1.given.0 in Moved c.loop-tag.c c.in-Field.tag c.in-Field.start c.in-Field.len c.in-Field.next) = moved c.in-Field.is c.next.ensures.1 in
+    let step : (Moved c.loop-tag.c c.in-Field.tag c.in-Field.start c.in-Field.len c.in-Field.next) = moved c.in-Field.is c.next.ensures.1 in
     let m = step in omega (arith, m.onward, m.most, m.ends)
 
 pub loop-tag-preserved : goal.loop-tag-preserved
 loop-tag-preserved c =
     let bytes_in : AreBytes c.args.s.now = known_bytes c.args.s.now (λ i. omega (arith, c.type_inv.s i)) in
-    let step : (let f = c.tag-1.given.0 in Moved c.loop-tag.c c.in-Field.tag c.in-Field.start c.in-Field.len c.in-Field.next) = moved c.in-Field.is c.next.ensures.1 in
+    let step : (Moved c.loop-tag.c c.in-Field.tag c.in-Field.start c.in-Field.len c.in-Field.next) = moved c.in-Field.is c.next.ensures.1 in
     ahead_turn _ _ c.loop-tag.invariant bytes_in _ _ _ _ step _ (took _ c.next.ensures.0 c.in-Field.is) c.if-tag-ne1.false
 
 pub returns-in-Torn : goal.returns-in-Torn
