@@ -30,4 +30,4 @@ returns c =
     let p = c.requires in
     let names = jobs c.args.list.now in
     let l = entries_in c.args.s.now in
-    record { out_after = indexes-written names l p.1 c.args.out.now p.3 c.fill.ensures c.pass-prefixes.ensures.out_after c.pass-literals.ensures.out_after c.mark_from.ensures.0; value = (all_read names l p.1 (last_name_lem names p.6 p.3 c.if-n-eq0.false) c.pass-prefixes.ensures.value.0 c.pass-literals.ensures.value.0, ) }
+    record { out_after = indexes-written names l p.1 c.args.out.now p.3 c.fill.ensures c.pass-prefixes.ensures.out_after c.pass-literals.ensures.out_after c.mark_from.ensures.0; value = all_read names l p.1 (last_name_lem names p.6 p.3 c.if-n-eq0.false) c.pass-prefixes.ensures.value.0 c.pass-literals.ensures.value.0 }

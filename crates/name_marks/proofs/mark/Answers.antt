@@ -39,7 +39,7 @@ shape_of-out-then-not-fits c = marking_length c.loop-at.invariant
 pub returns-then-not-fits : goal.returns-then-not-fits
 returns-then-not-fits c =
     let it : ( NameAs c.args.list.now c.loop-at.at (At c.in-At.start c.in-At.end)) = subst (NameAs _ c.loop-at.at) c.in-At.is c.name_at.ensures in
-    marking_unfit c.loop-at.invariant c.loop-at-test.true it f.fits2.ensures c.if-not-fits.true-raw
+    marking_unfit c.loop-at.invariant c.loop-at-test.true it c.fits.ensures c.if-not-fits.true-raw
 
 pub overflow_mul-n : goal.overflow_mul-n
 overflow_mul-n c =
@@ -65,7 +65,7 @@ loop-at-smaller c =
 pub loop-at-preserved : goal.loop-at-preserved
 loop-at-preserved c =
     let it : ( NameAs c.args.list.now c.loop-at.at (At c.in-At.start c.in-At.end)) = subst (NameAs _ c.loop-at.at) c.in-At.is c.name_at.ensures in
-    marking_on c.loop-at.invariant c.loop-at-test.true it f.fits2.ensures c.requires.1 c.if-not-fits.false-raw _ c.put.ensures
+    marking_on c.loop-at.invariant c.loop-at-test.true it c.fits.ensures c.requires.1 c.if-not-fits.false-raw _ c.put.ensures
 
 pub shape_of-out : goal.shape_of-out
 shape_of-out c = marking_length c.loop-at.invariant

@@ -20,7 +20,7 @@ returns-then-out-size c =
 pub put_fields-requires : goal.put_fields-requires
 put_fields-requires c =
     let f = c.fields_fault-f.ensures in
-    record { whole = fields-whole _ _ _ _ f c.if-f-ne0.false; values_in_bounds = (omega (arith, c.put_head.auto.out, body_is _ _ _ _ f c.if-f-ne0.false c.body_length-len.ensures), ) }
+    record { whole = fields-whole _ _ _ _ f c.if-f-ne0.false; values_in_bounds = omega (arith, c.put_head.auto.out, body_is _ _ _ _ f c.if-f-ne0.false c.body_length-len.ensures) }
 
 pub returns : goal.returns
 returns c =

@@ -34,7 +34,7 @@ put_epoch-total-requires c =
     record { head_size_in_bounds = (
         omega (arith, reals.low, reals.high),
         entries-total c.args.image.now reals c.args.out.now tested c.if-is_too_short.false offset entries,
-      ); image_in_bounds = (epoch_fits c.args.image.now reals c.args.out.now tested c.if-is_too_short.false offset entries, ) }
+      ); image_in_bounds = epoch_fits c.args.image.now reals c.args.out.now tested c.if-is_too_short.false offset entries }
 
 pub put_kraft-requires : goal.put_kraft-requires
 put_kraft-requires c =
@@ -46,7 +46,7 @@ put_kraft-requires c =
     record { head_size_in_bounds = (
         omega (arith, reals.low, reals.high),
         epoch-total c.args.image.now reals c.args.out.now tested c.if-is_too_short.false offset entries epoch,
-      ); image_in_bounds = (kraft_fits c.args.image.now reals c.args.out.now tested c.if-is_too_short.false offset entries epoch, ) }
+      ); image_in_bounds = kraft_fits c.args.image.now reals c.args.out.now tested c.if-is_too_short.false offset entries epoch }
 
 pub returns : goal.returns
 returns c =

@@ -15,7 +15,7 @@ place_entry-total-requires c =
     let bytes_in : AreBytes c.args.s.now = known_bytes c.args.s.now (λ i. omega (arith, c.type_inv.s i)) in
     let entry : ( Stands c.args.s.now c.loop-start.c.at c.in-Entry.start c.in-Entry.end c.in-Entry.next) = stands _ bytes_in _ c.loop-start.invariant.ahead.entries c.next.ensures c.in-Entry.is in
     let inv = c.loop-start.invariant in
-    record { behind = (behind inv entry bytes_in, sum-before inv entry bytes_in); end_in_bounds = (entry_fits inv entry bytes_in, ) }
+    record { behind = (behind inv entry bytes_in, sum-before inv entry bytes_in); end_in_bounds = entry_fits inv entry bytes_in }
 
 pub loop-start-smaller : goal.loop-start-smaller
 loop-start-smaller c =

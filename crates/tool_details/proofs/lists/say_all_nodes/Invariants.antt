@@ -1,0 +1,10 @@
+-- `tool_details::lists::say_all_nodes` ends, and stays in its list.
+use Prim.Native.Nat.{◌-◌, ◌≤◌}
+use lib.ListN.{length}
+use Rattle.tool_details.proofs.lists.say_all_nodes.Given as goal
+
+abbrev pub invariant-loop-at : goal.invariant-loop-at
+invariant-loop-at l = at ≤ length l.list
+
+abbrev pub decreases-loop-at : goal.decreases-loop-at
+decreases-loop-at l = length l.list - at
