@@ -1,11 +1,9 @@
 // Apply: what a record makes of an image, or a refusal that changes nothing.
-ghost use Rattle.std.specs.Prelude.{◌≡◌, true, ◌≤◌, length};
+ghost use Rattle.std.specs.Prelude.{◌≡◌, true, length};
 ghost use Rattle.model.specs.Image.{is_image, contents_of};
 ghost use Rattle.model.specs.Apply.{apply as applied, dated_by, is_later, apply_at, laid, apply_of};
 ghost use Rattle.model.specs.Answers.{number_reply};
 ghost use Rattle.find.specs.Logged.{IsLogged, logged_in};
-ghost use Rattle.apply_drafts.specs.Drafts.{draft_room};
-ghost use Rattle.apply_step.specs.Step.{work_room};
 
 use apply_step::try_in;
 use apply_work::{Tried, lay};
@@ -23,76 +21,34 @@ fn is_later(before: u64, offset: u64) -> bool
     place(before) < place(offset)
 }
 
-// Applies a record that Read accepts to an image, which has the log offset given afterwards. The work arrays are lent, whatever they hold.
-fn apply_record(
-    image: &mut [u8],
-    w: &mut [u8],
-    a: &mut [u8],
-    b: &mut [u8],
-    offset: u64,
-    rec: &[u8],
-) -> u8
-    requires { (is_image image.old ≡ true) × IsLogged rec.now × (length w.old ≡ work_room) × (draft_room ≤ length a.old) × (draft_room ≤ length b.old) }
+// Applies a record that Read accepts to an image, which has the log offset given afterwards.
+fn apply_record(image: &mut [u8], offset: u64, rec: &[u8]) -> u8
+    requires { (is_image image.old ≡ true) × IsLogged rec.now }
     ensures result_value { number_reply result ≡ (laid image.old (dated_by offset (applied (length image.old) (logged_in rec.now) (contents_of image.old)))).reply }
     ensures image_after { image.new ≡ (laid image.old (dated_by offset (applied (length image.old) (logged_in rec.now) (contents_of image.old)))).buffer }
 {
-    match try_in(w, a, b, image, rec) {
+    let mut w = [0; 167936];
+    let mut a = [0; 40960];
+    let mut b = [0; 40960];
+    match try_in(&mut w, &mut a, &mut b, image, rec) {
         Tried::Refused(number) => number,
         Tried::Moved(s) => {
-            lay(image, w, s.bounds, s.epoch, s.kraft, offset);
+            lay(image, &w, s.bounds, s.epoch, s.kraft, offset);
             0
         }
     }
 }
 
 // The same where the offset is above the image's; else 21.
-fn apply_later_with(
-    image: &mut [u8],
-    w: &mut [u8],
-    a: &mut [u8],
-    b: &mut [u8],
-    offset: u64,
-    rec: &[u8],
-) -> u8
-    requires { (is_image image.old ≡ true) × IsLogged rec.now × (length w.old ≡ work_room) × (draft_room ≤ length a.old) × (draft_room ≤ length b.old) }
+pub fn apply_later(image: &mut [u8], offset: u64, rec: &[u8]) -> u8
+    requires { (is_image image.old ≡ true) × IsLogged rec.now }
     ensures result_value { number_reply result ≡ (laid image.old (apply_at (length image.old) offset (logged_in rec.now) (contents_of image.old))).reply }
     ensures image_after { image.new ≡ (laid image.old (apply_at (length image.old) offset (logged_in rec.now) (contents_of image.old))).buffer }
 {
     if !is_later(offset_in(image), offset) {
         return NOT_LATER;
     }
-    apply_record(image, w, a, b, offset, rec)
-}
-
-// The same with work arrays of its own.
-pub fn apply_later(image: &mut [u8], offset: u64, rec: &[u8]) -> u8
-    requires { (is_image image.old ≡ true) × IsLogged rec.now }
-    ensures result_value { number_reply result ≡ (laid image.old (apply_at (length image.old) offset (logged_in rec.now) (contents_of image.old))).reply }
-    ensures image_after { image.new ≡ (laid image.old (apply_at (length image.old) offset (logged_in rec.now) (contents_of image.old))).buffer }
-{
-    let mut w = [0; 167936];
-    let mut a = [0; 40960];
-    let mut b = [0; 40960];
-    apply_later_with(image, &mut w, &mut a, &mut b, offset, rec)
-}
-
-// Applies the record at the start of `input` to an image that is known to be one, with work arrays that are lent, whatever they hold.
-pub fn apply_in(
-    image: &mut [u8],
-    w: &mut [u8],
-    a: &mut [u8],
-    b: &mut [u8],
-    offset: u64,
-    input: &[u8],
-) -> u8
-    requires { (is_image image.old ≡ true) × (length w.old ≡ work_room) × (draft_room ≤ length a.old) × (draft_room ≤ length b.old) }
-    ensures result_value { number_reply result ≡ (apply_of image.old offset input.now).reply }
-    ensures image_after { image.new ≡ (apply_of image.old offset input.now).buffer }
-{
-    match read_logged(input) {
-        Answer::Refused(number) => number,
-        Answer::Used(n) => apply_later_with(image, w, a, b, offset, &input[..n]),
-    }
+    apply_record(image, offset, rec)
 }
 
 // Applies the record at the start of `input` to an image, at its log offset, an i64 by its bits. 0, or the number of a refusal, which changes
@@ -104,8 +60,8 @@ pub fn apply(image: &mut [u8], offset: u64, input: &[u8]) -> u8
     if !is_image(image) {
         return NO_IMAGE;
     }
-    let mut w = [0; 167936];
-    let mut a = [0; 40960];
-    let mut b = [0; 40960];
-    apply_in(image, &mut w, &mut a, &mut b, offset, input)
+    match read_logged(input) {
+        Answer::Refused(number) => number,
+        Answer::Used(n) => apply_later(image, offset, &input[..n]),
+    }
 }

@@ -84,11 +84,11 @@ module _ (seen : Bytes) (place : ℕ) (inside : place < length seen) where
 pub record Walked (s seen : Bytes) (at : ℕ) : Type 0 where
   pub entries : Entries (drop at s)
   pub passed : Entries (take at s)
-  pub size : length seen ≡ 8192
+  pub size : length seen ≡ 65536
   pub apart : named_apart (map entry_of (records_in (take at s))) ≡ true
   pub marked : All (Marked seen) (records_in (take at s))
 
-pub walk_start : (s seen : Bytes) → Entries s → length seen ≡ 8192 → Walked s seen 0
+pub walk_start : (s seen : Bytes) → Entries s → length seen ≡ 65536 → Walked s seen 0
 unfolding items_from records is_whole named_apart
 walk_start s seen e size = record { entries = e; passed = refl; size = size; apart = refl; marked = tt }
 
@@ -98,7 +98,7 @@ walk_end {s} {seen} {at} h past = sym h.apart ∙ ap (λ x. named_apart (map ent
 -- 3. A turn: the step from the walk's place found an entry
 
 module _ {s seen : Bytes} {at start end : ℕ} {next : Cursor} (are_bytes : AreBytes s) (h : Walked s seen at) (t : Stands s at start end next) where
-  moved : (marks : Bytes) → length marks ≡ 8192 → All (Marked marks) (records_in (take at s)) → Marked marks t.entry.entry
+  moved : (marks : Bytes) → length marks ≡ 65536 → All (Marked marks) (records_in (take at s)) → Marked marks t.entry.entry
       → All (λ f. Apart f (entry_of t.entry.entry)) (map entry_of (records_in (take at s))) → Walked s marks next.at
   moved marks size marked own new =
       let front = records_in (take at s) in
@@ -122,7 +122,7 @@ module _ {s seen : Bytes} {at start end : ℕ} {next : Cursor} (are_bytes : AreB
       moved seen h.size h.marked (λ named p. true_false named n) (unnamed_apart t.entry.entry n (map entry_of (records_in (take at s))))
 
   -- a named topic: its mark's place, and whether its id is new
-  module _ (place : ℕ) (at_place : (place ≡ place_of (id_of (record_in (take (end - start) (drop start s))))) × (place < 8192)) where
+  module _ (place : ℕ) (at_place : (place ≡ place_of (id_of (record_in (take (end - start) (drop start s))))) × (place < 65536)) where
     place_here : place ≡ place_of (id_of t.entry.entry)
     place_here = at_place.0 ∙ ap (λ r. place_of (id_of r)) (record-here t)
 
@@ -138,7 +138,7 @@ module _ {s seen : Bytes} {at start end : ℕ} {next : Cursor} (are_bytes : AreB
     new-here : none_in (id_of t.entry.entry) (records_in (take at s)) ≡ new
     new-here = sym (tells ∙ ap₂ (λ r i. none_in (id_of r) (records_in (take i s))) (record-here t) t.first)
 
-    pub walk_new : new ≡ true → (place : ℕ) → (place ≡ place_of (id_of (record_in (take (end - start) (drop start s))))) × (place < 8192)
+    pub walk_new : new ≡ true → (place : ℕ) → (place ≡ place_of (id_of (record_in (take (end - start) (drop start s))))) × (place < 65536)
         → (get_or seen place 0 ≡ 0 → ⊥) → Walked s seen next.at
     walk_new e place at_place mark =
         moved seen h.size h.marked (λ n p. mark (ap (λ i. get_or seen i 0) (place_here place at_place) ∙ p))

@@ -1,13 +1,13 @@
--- A record by its bytes: whether it is a named topic, its id, the place of the id's mark, and the id's halves.
+-- A record by its bytes: whether it is a named topic, its id, and the place of the id's mark.
 use mathlib.Core.Path.{◌≡◌, refl, sym, ap, ◌∙◌}
 use mathlib.Core.Bool.{Bool, true, false, cond, ◌&&◌, and-true, and-false}
-use Prim.Native.Nat.{ℕ, ◌+◌, ◌%◌, ◌≤◌}
+use Prim.Native.Nat.{ℕ, ◌+◌, ◌≤◌}
 use native.Mathlib.Omega.{arith}
 use borrow.Author.Tests.{eqb-true, eq-eqb, ne_eqb}
 use lib.Dec.{eqb}
 use lib.ListN.{length, get_or, take, drop}
 use lib.Seq.{slice, drop-drop}
-use Rattle.model.specs.Number.{Bytes, AreBytes, number}
+use Rattle.model.specs.Number.{Bytes, number}
 use Rattle.model.specs.Order.{same_bytes}
 use Rattle.model.specs.Run.{value}
 use Rattle.model.specs.Kind.{kind_number}
@@ -17,18 +17,14 @@ use Rattle.model.specs.Contents.{topic, part, plain, names_id}
 use Rattle.model.specs.Image.{entry_of}
 use Rattle.model.specs.declared.Kind.TheVariants.{Topic}
 use Rattle.laws.specs.Choice.{and_left}
-use Rattle.laws.specs.Numbers.{drop_are_bytes}
 use Rattle.laws_records.specs.Faults.{fault-value}
-use Rattle.laws_records.specs.Fields.{value_are_bytes}
 use Rattle.laws_records.specs.Kinds.{number_injective}
-use Rattle.laws_records.specs.Runs.{fields-run}
-use Rattle.fields.proofs.Parse.{take-slice}
 use Rattle.keys.specs.Keys.{run_in}
 use Rattle.keys.proofs.Found.{part_length}
 use Rattle.entries.specs.Entries.{IsRecord, record_in}
 use Rattle.entries.proofs.Records.{record-run}
 use Rattle.entries.proofs.Changes.{record-in, is_keyed}
-use Rattle.image_ids.specs.Ids.{is_named, id_of, place_of, half_of, IsId}
+use Rattle.image_ids.specs.Ids.{is_named, id_of, place_of}
 
 -- 1. Records
 
@@ -119,14 +115,9 @@ module _ (s : Bytes) (i : IsRecord s) where
   pub id_in : (v : Bytes) → v ≡ value 2 (run_in s) → v ≡ id_of (record_in s)
   id_in v e = e ∙ ap (value 2) run_in_lem
 
-  pub is_id : AreBytes s → is_named (record_in s) ≡ true → IsId (id_of (record_in s))
-  is_id are named =
-      let width = (widths (named_topic (record_in s) named)).0 in
-      rw (← run_in_lem) (width, value_are_bytes 2 (run_in s) (fields-run (drop 3 s) (drop_are_bytes 3 s are)))
-
-  -- where its id's mark stands, and its halves
+  -- where its id's mark stands
   module _ (named : is_named (record_in s) ≡ true) (a z : ℕ) (p : Found s 2 a z) where
-    id_end : z ≡ a + 16
+    id_end : z ≡ a + 14 + 2
     id_end =
         let e = part_length s a z (value 2 (run_in s)) p.1 p.2 p.0 in
         let w = (widths (named_topic (record_in s) named)).0 in
@@ -135,23 +126,10 @@ module _ (s : Bytes) (i : IsRecord s) where
     pub id_fits : a + 14 + 2 ≤ length s
     id_fits = omega (arith, id_end, p.2)
 
-    pub place_in : (n : ℕ) → n ≡ number (slice (a + 14) (a + 14 + 2) s) → n % 8192 ≡ place_of (id_of (record_in s))
+    pub place_in : (n : ℕ) → n ≡ number (slice (a + 14) (a + 14 + 2) s) → n ≡ place_of (id_of (record_in s))
     unfolding place_of
     place_in n h =
-        let end : a + 14 + 2 ≡ z = omega (arith, id_end) in
-        ap (λ x. x % 8192) (h
-        ∙ ap (λ x. number (slice (a + 14) x s)) end
+        h
+        ∙ ap (λ x. number (slice (a + 14) x s)) (sym id_end)
         ∙ ap number (sym (drop-drop 14 a (take z s)))
-        ∙ ap (λ x. number (drop 14 x)) (id_in (slice a z s) p.0))
-
-    module _ (from : ℕ) (within : from ≤ 8) where
-      pub half_fits : a + from + 8 ≤ length s
-      half_fits = omega (arith, id_end, p.2)
-
-      pub half_in : (n : ℕ) → n ≡ number (slice (a + from) (a + from + 8) s) → n ≡ half_of from (id_of (record_in s))
-      unfolding half_of
-      half_in n h =
-          h
-          ∙ ap number (sym (take-slice s (a + from) 8 z (omega (arith, id_end))))
-          ∙ ap (λ x. number (take 8 x)) (sym (drop-drop from a (take z s)))
-          ∙ ap (λ x. number (take 8 (drop from x))) (id_in (slice a z s) p.0)
+        ∙ ap (λ x. number (drop 14 x)) (id_in (slice a z s) p.0)

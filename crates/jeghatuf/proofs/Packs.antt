@@ -5,9 +5,7 @@ use mathlib.Core.List.{List, [], ◌∷◌}
 use Prim.Native.Nat.{ℕ, ◌+◌, ◌*◌}
 use native.Mathlib.Omega.{arith}
 use Rattle.model.specs.Reply.{Reply}
-use Rattle.model.specs.Answers.{number_reply, replied, valued, rating, restore_reply, run_reply, separate_reply, compared_reply, count_reply}
-use Rattle.model.specs.declared.answers.Answer.{Answer}
-use Rattle.model.specs.declared.answers.Answer.TheVariants as answer
+use Rattle.model.specs.Answers.{number_reply, valued, rating, restore_reply, run_reply, separate_reply, compared_reply, count_reply}
 use Rattle.model.specs.declared.answers.Value.{Value}
 use Rattle.model.specs.declared.answers.Value.TheVariants.{Is, Refused}
 use Rattle.model.specs.declared.answers.Rated.{Rated}
@@ -49,14 +47,6 @@ module _ {v : Value} {r : Reply} (e : valued v ≡ r) where
 
   pub wide_refused : {n x : ℕ} → v ≡ Refused n → x ≡ n * 4294967296 → (l : List ℕ) → (x ≡ r.number * 4294967296) × (l ≡ widened r l)
   wide_refused h q l = rw (← (ap valued (sym h) ∙ e)) (q, refl)
-
--- a count that may be wide
-module _ {v : Answer} {r : Reply} (e : replied v ≡ r) where
-  pub wide_used : {n : ℕ} {m : List ℕ} → v ≡ answer.Used n → (l : List ℕ) → m ≡ first_is (n ∷ []) l → (0 ≡ r.number * 4294967296) × (m ≡ widened r l)
-  wide_used h l q = rw (← (ap replied (sym h) ∙ e)) (refl, q)
-
-  pub unused : {n x : ℕ} → v ≡ answer.Refused n → x ≡ n * 4294967296 → (l : List ℕ) → (x ≡ r.number * 4294967296) × (l ≡ widened r l)
-  unused h q l = rw (← (ap replied (sym h) ∙ e)) (q, refl)
 
 -- a wide value that may be none
 module _ {v : Rated} {r : Reply} (e : rating v ≡ r) where

@@ -18,7 +18,6 @@ use Rattle.model.specs.Lookup.{topic_by_name, topic_by_id, partition_of, broker_
 use Rattle.model.specs.FreezeList.{freeze_list_of}
 use Rattle.model.specs.LogFreeze.{log_freeze_of}
 use Rattle.model.specs.View.{view_snapshot_of, view_topic_of, view_partition_of, view_freeze_of}
-use Rattle.model.specs.GiveRun.{give_run_of}
 use Rattle.model.specs.Recordings.{compare_of}
 use Rattle.model.specs.Downgrade.{downgrade_of}
 use Rattle.model.specs.ShortHistory.{history_of}
@@ -63,7 +62,6 @@ pub record Unpacked : Type 0 where
   -- a number alone: the values are in the lent list
   pub jeghatuf_features-epoch : (image : Bytes) → AloneBack (epoch_of image)
   pub jeghatuf_log_offset : (image : Bytes) → AloneBack (offset_of image)
-  pub jeghatuf_give_run : (image : Bytes) (offset : ℕ) (input out : Bytes) → AloneBack (give_run_of image offset input out).reply
   pub jeghatuf_restore : (input image : Bytes) → AloneBack (restore_of input image).reply
   pub jeghatuf_with_offset : (run : Bytes) (offset : ℕ) (out : Bytes) → AloneBack (with_offset_of run offset out).reply
   pub jeghatuf_without-offset : (run out : Bytes) → AloneBack (without_offset_of run out).reply
@@ -107,7 +105,6 @@ unpacked = record {
   jeghatuf_throttle = λ image node kind. counted_undone (throttle_of image node kind) (omega (arith, throttle_once image node kind));
   jeghatuf_features-epoch = λ image. alone_undone (epoch_of image);
   jeghatuf_log_offset = λ image. alone_undone (offset_of image);
-  jeghatuf_give_run = λ image offset input out. alone_undone (give_run_of image offset input out).reply;
   jeghatuf_restore = λ input image. alone_undone (restore_of input image).reply;
   jeghatuf_with_offset = λ run offset out. alone_undone (with_offset_of run offset out).reply;
   jeghatuf_without-offset = λ run out. alone_undone (without_offset_of run out).reply;

@@ -8,7 +8,6 @@ mod kafka;
 mod lists;
 mod logs;
 mod restarts;
-mod runs;
 mod tags;
 mod viewers;
 

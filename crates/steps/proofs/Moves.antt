@@ -1,18 +1,16 @@
 -- What the operations' answers make of a step.
-use mathlib.Core.Path.{◌≡◌, refl, sym, ◌∙◌}
-use mathlib.Core.Bool.{Bool, true, false, cond, not}
+use mathlib.Core.Path.{◌≡◌, refl}
+use mathlib.Core.Bool.{true, false, cond}
 use mathlib.Core.List.{[], ◌∷◌}
 use mathlib.Core.Option.{none, some}
 use Prim.Native.Nat.{ℕ}
-use borrow.Author.Tests.{ne_eqb, not-true, not-false}
+use borrow.Author.Tests.{ne_eqb}
 use lib.Dec.{eqb}
 use lib.ListN.{take}
 use Rattle.model.specs.Number.{Bytes}
 use Rattle.model.specs.Reply.{Reply, accepted, refused}
 use Rattle.model.specs.Snapshot.{snapshot_of, restore_of}
-use Rattle.model.specs.Image.{is_image}
-use Rattle.model.specs.Validate.{validate_of}
-use Rattle.model.specs.History.{verdict, judged, image_after, cut_image}
+use Rattle.model.specs.History.{verdict, cut_image}
 use Rattle.model.specs.Answers.{number_reply}
 use Rattle.snapshot.proofs.Shots.{refusal_counts}
 
@@ -31,15 +29,6 @@ module _ {v : ℕ} {r : Reply} (e : number_reply v ≡ r) where
 
   pub applied_image : (b c : Bytes) → v ≡ 0 → b ≡ cond (eqb r.number 0) b c
   applied_image b c h = rw (← e, h) refl
-
--- what the exact test says
-pub tested : (image : Bytes) {b : Bool} → b ≡ is_image image → not b ≡ false → is_image image ≡ true
-tested image {b} e h = sym e ∙ not-false b h
-
-pub unjudged : (image : Bytes) (offset : ℕ) (input : Bytes) {b : Bool} → b ≡ is_image image → not b ≡ true
-    → (verdict (number_reply 1) none ≡ judged offset input image) × (image ≡ image_after offset input image)
-unfolding validate_of
-unjudged image offset input {b} e h = rw (← e, not-true b h) (refl, refl)
 
 -- a cut, by what the snapshot says
 module _ (image own : Bytes) where

@@ -1,17 +1,10 @@
 // The steps of a history that move an image, as the theorem has them: a record that is given, and a cut.
-ghost use Rattle.std.specs.Prelude.{◌≡◌, true, ◌≤◌, length, eqb};
-ghost use Rattle.model.specs.Image.{is_image};
+ghost use Rattle.std.specs.Prelude.{◌≡◌, eqb};
 ghost use Rattle.model.specs.History.{judged, image_after, cut_image};
 ghost use Rattle.model.specs.Snapshot.{snapshot_of};
-ghost use Rattle.apply_drafts.specs.Drafts.{draft_room};
-ghost use Rattle.apply_step.specs.Step.{work_room};
 ghost use Rattle.steps.specs.Steps.{verdict_of};
 
-use apply::apply_in;
-use image::is_image;
 use model::answers::Answer;
-use model::refusals::NO_IMAGE;
-use validate::validate_in;
 
 // What Validate says, and where that is 0 what Apply says, else 0.
 #[derive(Clone, Copy)]
@@ -20,43 +13,17 @@ pub struct Said {
     pub apply: u8,
 }
 
-// Gives a record to Validate and, where that says 0, to Apply at its log offset, on an image that is known to be one. The work arrays are lent, whatever
-// they hold.
-pub fn give_in(
-    image: &mut [u8],
-    w: &mut [u8],
-    a: &mut [u8],
-    b: &mut [u8],
-    offset: u64,
-    input: &[u8],
-) -> Said
-    requires { (is_image image.old ≡ true) × (length w.old ≡ work_room) × (draft_room ≤ length a.old) × (draft_room ≤ length b.old) }
-    ensures result_value { verdict_of result ≡ judged offset input.now image.old }
-    ensures image_after { image.new ≡ image_after offset input.now image.old }
-{
-    let validate = validate_in(image, input);
-    if validate != 0 {
-        return Said { validate, apply: 0 };
-    }
-    let apply = apply_in(image, w, a, b, offset, input);
-    Said { validate, apply }
-}
-
-// The same on any bytes, which are tested once.
+// Gives a record to Validate and, where that says 0, to Apply at its log offset.
 pub fn give(image: &mut [u8], offset: u64, input: &[u8]) -> Said
     ensures result_value { verdict_of result ≡ judged offset input.now image.old }
     ensures image_after { image.new ≡ image_after offset input.now image.old }
 {
-    if !is_image(image) {
-        return Said {
-            validate: NO_IMAGE,
-            apply: 0,
-        };
+    let validate = validate::validate(image, input);
+    if validate != 0 {
+        return Said { validate, apply: 0 };
     }
-    let mut w = [0; 167936];
-    let mut a = [0; 40960];
-    let mut b = [0; 40960];
-    give_in(image, &mut w, &mut a, &mut b, offset, input)
+    let apply = apply::apply(image, offset, input);
+    Said { validate, apply }
 }
 
 // A restart: a snapshot into `out`, and the image restored from it in its own buffer. Whether there was one: else the image stays, and `out` too.

@@ -1,6 +1,5 @@
 // Validate: what stands against a record. It changes nothing.
-ghost use Rattle.std.specs.Prelude.{◌≡◌, true};
-ghost use Rattle.model.specs.Image.{is_image};
+ghost use Rattle.std.specs.Prelude.{◌≡◌};
 ghost use Rattle.model.specs.Validate.{validate_of};
 ghost use Rattle.model.specs.Answers.{number_reply};
 
@@ -12,12 +11,13 @@ use model::answers::Answer;
 use model::refusals::NO_IMAGE;
 use records::read_logged;
 
-// The number of the first refusal of the record at the start of `input`, 0 where there is none, against an image that is known to be one. Later bytes are
-// not looked at.
-pub fn validate_in(image: &[u8], input: &[u8]) -> u8
-    requires { is_image image.now ≡ true }
+// The number of the first refusal of the record at the start of `input`, 0 where there is none. Later bytes are not looked at.
+pub fn validate(image: &[u8], input: &[u8]) -> u8
     ensures { number_reply result ≡ validate_of image.now input.now }
 {
+    if !is_image(image) {
+        return NO_IMAGE;
+    }
     match read_logged(input) {
         Answer::Refused(number) => number,
         Answer::Used(n) => {
@@ -25,14 +25,4 @@ pub fn validate_in(image: &[u8], input: &[u8]) -> u8
             judge(&image[HEAD_SIZE..end], &input[..n])
         }
     }
-}
-
-// The same against any bytes: 1 where they are no image.
-pub fn validate(image: &[u8], input: &[u8]) -> u8
-    ensures { number_reply result ≡ validate_of image.now input.now }
-{
-    if !is_image(image) {
-        return NO_IMAGE;
-    }
-    validate_in(image, input)
 }

@@ -1,0 +1,21 @@
+-- `jeghatuf::viewers::jeghatuf_view_snapshot` meets its contract: the operation's answer in one number.
+use borrow.Author.Rules.{rules}
+use mathlib.Core.Path.{ap, ◌∙◌}
+use Rattle.packing.specs.Packed.{packed}
+use Rattle.jeghatuf.proofs.viewers.jeghatuf_view_snapshot.Statement.{statement}
+use Rattle.jeghatuf.proofs.viewers.jeghatuf_view_snapshot.Tie as tie
+
+view-snapshot-requires : tie.Need-view-snapshot-requires
+view-snapshot-requires c κs = search rules
+
+pack-requires : tie.Need-pack-requires
+pack-requires c κs = search rules
+
+same_length : tie.Need-same-length
+same_length c = search rules
+
+returns : tie.Need-returns
+returns c = let e = c.before.before.before.view-snapshot.ensures in (c.pack.ensures ∙ ap packed e.0, e.1)
+
+pub jeghatuf-view-snapshot-spec : {M : Type 1} → statement M
+jeghatuf-view-snapshot-spec = tie.close (tie.spec view-snapshot-requires pack-requires same_length returns)
