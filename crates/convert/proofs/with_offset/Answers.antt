@@ -10,11 +10,9 @@ returns-then-not-is_offset c =
 pub returns-in-Fails : goal.returns-in-Fails
 returns-in-Fails c =
     let a = c.args in
-    old-stopped a.run.now a.offset a.out.now c.is_offset.ensures c.if-not-is_offset.false-raw c.check_run.ensures c.in
-    let the_whole = -Fails.is in record { result_value = the_whole.0; out_after = the_whole.1 }
+    let the_whole = old-stopped a.run.now a.offset a.out.now c.is_offset.ensures c.if-not-is_offset.false-raw c.check_run.ensures c.in-Fails.is in record { result_value = the_whole.0; out_after = the_whole.1 }
 
 pub returns-in-Passes : goal.returns-in-Passes
 returns-in-Passes c =
     let a = c.args in
-    old-passed a.run.now a.offset a.out.now c.is_offset.ensures c.if-not-is_offset.false-raw c.check_run.ensures c.in
-    let the_whole = -Passes.is c.put_new.ensures in record { result_value = the_whole.0; out_after = the_whole.1 }
+    let the_whole = old-passed a.run.now a.offset a.out.now c.is_offset.ensures c.if-not-is_offset.false-raw c.check_run.ensures c.in-Passes.is (c.put_new.ensures.result_value, c.put_new.ensures.out_after) in record { result_value = the_whole.0; out_after = the_whole.1 }

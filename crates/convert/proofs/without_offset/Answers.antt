@@ -10,11 +10,9 @@ put_old-requires c =
 pub returns-in-Fails : goal.returns-in-Fails
 returns-in-Fails c =
     let a = c.args in
-    new-stopped a.run.now a.out.now c.check_new.ensures c.in
-    let the_whole = -Fails.is in record { result_value = the_whole.0; out_after = the_whole.1 }
+    let the_whole = new-stopped a.run.now a.out.now c.check_new.ensures c.in-Fails.is in record { result_value = the_whole.0; out_after = the_whole.1 }
 
 pub returns-in-Passes : goal.returns-in-Passes
 returns-in-Passes c =
     let a = c.args in
-    new-passed a.run.now a.out.now c.check_new.ensures c.in
-    let the_whole = -Passes.is c.put_old.ensures in record { result_value = the_whole.0; out_after = the_whole.1 }
+    let the_whole = new-passed a.run.now a.out.now c.check_new.ensures c.in-Passes.is (c.put_old.ensures.result_value, c.put_old.ensures.out_after) in record { result_value = the_whole.0; out_after = the_whole.1 }

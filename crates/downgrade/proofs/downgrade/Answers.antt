@@ -12,4 +12,4 @@ emit_listed-requires c =
 
 pub returns : goal.returns
 returns c =
-    let the_whole = said _ c.args.level c.args.out.now c.is_image.ensures c.if-not-is_image.false-raw c.emit_listed.ensures in record { result_value = the_whole.0; out_after = the_whole.1 }
+    let the_whole = said _ c.args.level c.args.out.now c.is_image.ensures c.if-not-is_image.false-raw (c.emit_listed.ensures.result_value, c.emit_listed.ensures.out_after) in record { result_value = the_whole.0; out_after = the_whole.1 }

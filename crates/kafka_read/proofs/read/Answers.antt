@@ -10,11 +10,9 @@ read_message-requires c =
 pub returns-in-Refused : goal.returns-in-Refused
 returns-in-Refused c =
     let a = c.args in
-    no_frame a.input.now a.out.now c.read_frame.result c.read_frame.ensures c.in
-    let the_whole = -Refused.is in record { result_value = the_whole.0; out_after = the_whole.1 }
+    let the_whole = no_frame a.input.now a.out.now c.read_frame.result c.read_frame.ensures c.in-Refused.is in record { result_value = the_whole.0; out_after = the_whole.1 }
 
 pub returns-in-Message : goal.returns-in-Message
 returns-in-Message c =
     let a = c.args in
-    frame_answered a.input.now a.out.now c.read_frame.result c.read_frame.ensures c.in
-    let the_whole = -Message.is c.read_message.ensures in record { result_value = the_whole.0; out_after = the_whole.1 }
+    let the_whole = frame_answered a.input.now a.out.now c.read_frame.result c.read_frame.ensures c.in-Message.is c.read_message.ensures in record { result_value = the_whole.0; out_after = the_whole.1 }

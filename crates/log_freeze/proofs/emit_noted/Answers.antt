@@ -19,4 +19,4 @@ emit_record-requires c =
 pub returns : goal.returns
 returns c =
     let the_whole = noted-written c.args.run.now c.args.name.now c.args.out.now c.requires.2 c.args.slots.now c.requires.0 c.is_internal.ensures c.if-is_internal.false
-    c.choose-v.ensures c.if-v-eq0.false c.emit_record.ensures in record { result_value = the_whole.0; out_after = the_whole.1 }
+    c.choose-v.ensures c.if-v-eq0.false (c.emit_record.ensures.result_value, c.emit_record.ensures.out_after) in record { result_value = the_whole.0; out_after = the_whole.1 }

@@ -24,4 +24,4 @@ slice_bounds-emit_bytes-end c = record-fits c.args.run.now c.args.at c.requires 
 pub returns : goal.returns
 returns c =
     let bytes_in : AreBytes c.args.run.now = known_bytes c.args.run.now (λ i. omega (arith, c.type_inv.run i)) in
-    let the_whole = record-emitted c.args.run.now c.args.at c.requires bytes_in c.get16.ensures.0 c.args.out.now c.emit_bytes.ensures in record { result_value = the_whole.0; out_after = the_whole.1 }
+    let the_whole = record-emitted c.args.run.now c.args.at c.requires bytes_in c.get16.ensures.0 c.args.out.now (c.emit_bytes.ensures.result_value, c.emit_bytes.ensures.out_after) in record { result_value = the_whole.0; out_after = the_whole.1 }

@@ -15,4 +15,4 @@ entry-requires c =
 
 pub returns : goal.returns
 returns c =
-    let the_whole = broker_found c.args.image.now c.args.out.now c.is_image.ensures c.if-not-is_image.false-raw _ _ c.put.ensures c.entry.ensures in record { result_value = the_whole.0; out_after = the_whole.1 }
+    let the_whole = broker_found c.args.image.now c.args.out.now c.is_image.ensures c.if-not-is_image.false-raw _ _ c.put.ensures (c.entry.ensures.result_value, c.entry.ensures.out_after) in record { result_value = the_whole.0; out_after = the_whole.1 }

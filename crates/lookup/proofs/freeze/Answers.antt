@@ -24,4 +24,4 @@ emit_freeze-requires c =
 pub returns : goal.returns
 returns c =
     let the_whole = freeze-found c.args.image.now c.args.out.now c.is_image.ensures c.if-not-is_image.false-raw _
-    (sym c.if-f-ne0.false ∙ c.text_fault-f.ensures) (lent-held _ c.reals_end-end.ensures) c.emit_freeze.ensures in record { result_value = the_whole.0; out_after = the_whole.1 }
+    (sym c.if-f-ne0.false ∙ c.text_fault-f.ensures) (lent-held _ c.reals_end-end.ensures) (c.emit_freeze.ensures.result_value, c.emit_freeze.ensures.out_after) in record { result_value = the_whole.0; out_after = the_whole.1 }

@@ -23,4 +23,4 @@ entry-requires c =
 pub returns : goal.returns
 returns c =
     let the_whole = topic_found c.args.image.now c.args.out.now c.is_image.ensures c.if-not-is_image.false-raw _
-    (sym c.if-f-ne0.false ∙ c.text_fault-f.ensures) c.entry.ensures in record { result_value = the_whole.0; out_after = the_whole.1 }
+    (sym c.if-f-ne0.false ∙ c.text_fault-f.ensures) (c.entry.ensures.result_value, c.entry.ensures.out_after) in record { result_value = the_whole.0; out_after = the_whole.1 }

@@ -18,4 +18,4 @@ emit_named-requires c =
 pub returns : goal.returns
 returns c =
     let the_whole = id_found c.args.image.now c.args.out.now c.is_image.ensures c.if-not-is_image.false-raw _ (lent-held _ c.reals_end-end.ensures)
-    c.emit_named.ensures in record { result_value = the_whole.0; out_after = the_whole.1 }
+    (c.emit_named.ensures.result_value, c.emit_named.ensures.out_after) in record { result_value = the_whole.0; out_after = the_whole.1 }

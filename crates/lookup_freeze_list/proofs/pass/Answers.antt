@@ -136,8 +136,7 @@ shape_of-out-in-Torn c = c.loop-start.invariant.size
 pub returns-in-Torn : goal.returns-in-Torn
 returns-in-Torn c =
     let bytes_in : AreBytes c.args.s.now = known_bytes c.args.s.now (λ i. omega (arith, c.type_inv.s i)) in
-    not_torn _ bytes_in _ c.loop-start.invariant.entries c.next.ensures c.in
-    let the_whole = -Torn.is in record { value = the_whole.0; out_after = the_whole.1 }
+    let the_whole = not_torn _ bytes_in _ c.loop-start.invariant.entries c.next.ensures c.in-Torn.is in record { value = the_whole.0; out_after = the_whole.1 }
 
 pub shape_of-out-in-End : goal.shape_of-out-in-End
 shape_of-out-in-End c = c.loop-start.invariant.size

@@ -12,4 +12,4 @@ emit_place-requires c = c.choose-p.ensures.holds
 pub returns : goal.returns
 returns c =
     let the_whole = chosen_emitted c.args.s.now c.args.name.now c.is_internal.ensures c.if-is_internal.false c.choose-p.ensures c.args.out.now
-    c.emit_place.ensures in record { result_value = the_whole.0; out_after = the_whole.1 }
+    (c.emit_place.ensures.result_value, c.emit_place.ensures.out_after) in record { result_value = the_whole.0; out_after = the_whole.1 }

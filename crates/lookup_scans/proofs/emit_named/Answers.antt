@@ -7,4 +7,4 @@ emit_place-requires c = named-holds _ _ _ _ c.find_id-p.ensures c.requires.1
 
 pub returns : goal.returns
 returns c =
-    let the_whole = named_emits _ _ _ _ c.find_id-p.ensures _ c.emit_place.ensures in record { result_value = the_whole.0; out_after = the_whole.1 }
+    let the_whole = named_emits _ _ _ _ c.find_id-p.ensures _ (c.emit_place.ensures.result_value, c.emit_place.ensures.out_after) in record { result_value = the_whole.0; out_after = the_whole.1 }

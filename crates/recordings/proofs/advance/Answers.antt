@@ -33,7 +33,7 @@ returns-then-number-ne0 c =
     let bytes_in : AreBytes c.args.run.now = known_bytes c.args.run.now (λ i. omega (arith, c.type_inv.run i)) in
     let used : accepted (c.in-Used.n ∷ []) ≡ got_reply (read logged c.args.run.now) = ap replied (sym c.in-Used.is) ∙ c.read_logged.ensures in
     stands-refused c.args.image.now c.args.offset c.requires (omega (arith, c.ranges)) c.args.run.now bytes_in used
-    c.apply_later-number.ensures c.if-number-ne0.true
+    (c.apply_later-number.ensures.result_value, c.apply_later-number.ensures.image_after) c.if-number-ne0.true
 
 pub returns-in-Refused : goal.returns-in-Refused
 returns-in-Refused c =
@@ -45,4 +45,4 @@ returns-else-number-ne0 c =
     let bytes_in : AreBytes c.args.run.now = known_bytes c.args.run.now (λ i. omega (arith, c.type_inv.run i)) in
     let used : accepted (c.in-Used.n ∷ []) ≡ got_reply (read logged c.args.run.now) = ap replied (sym c.in-Used.is) ∙ c.read_logged.ensures in
     moves c.args.image.now c.args.offset c.requires (omega (arith, c.ranges)) c.args.run.now bytes_in used
-    c.apply_later-number.ensures c.if-number-ne0.false
+    (c.apply_later-number.ensures.result_value, c.apply_later-number.ensures.image_after) c.if-number-ne0.false

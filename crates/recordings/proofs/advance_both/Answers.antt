@@ -44,7 +44,7 @@ returns-then-apply_later-ne0 c =
     let used : accepted (c.in-Used.n ∷ []) ≡ got_reply (read logged c.args.one.now) = ap replied (sym c.in-Used.is) ∙ c.read_logged.ensures in
     (
       stays_put c.args.first.now c.args.offset c.requires.0 (omega (arith, c.ranges)) c.args.one.now bytes_in used
-          c.apply_later.ensures c.if-apply_later-ne0.true,
+          (c.apply_later.ensures.result_value, c.apply_later.ensures.image_after) c.if-apply_later-ne0.true,
       c.requires.1,
     )
 
@@ -58,6 +58,6 @@ returns-else-apply_later-ne0 c =
     let used : accepted (c.in-Used.n ∷ []) ≡ got_reply (read logged c.args.one.now) = ap replied (sym c.in-Used.is) ∙ c.read_logged.ensures in
     let moved =
     moves c.args.first.now c.args.offset c.requires.0 (omega (arith, c.ranges)) c.args.one.now bytes_in used
-    c.apply_later.ensures c.if-apply_later-ne0.false in
+    (c.apply_later.ensures.result_value, c.apply_later.ensures.image_after) c.if-apply_later-ne0.false in
     both_moved c.args.first.now c.args.offset c.args.one.now c.args.other.now c.same.ensures c.if-not-same.false-raw moved
     (copied c.args.second.now _ (moved.long ∙ ap length (sym c.requires.1)) c.copy.ensures)

@@ -28,4 +28,4 @@ restore_each-requires c =
 
 pub returns : goal.returns
 returns c =
-    let the_whole = each c.args.image.now c.args.input.now c.is_capacity.ensures c.if-not-is_capacity.false-raw _ c.rebuild.auto.image c.restore_each.ensures in record { result_value = the_whole.0; image_after = the_whole.1 }
+    let the_whole = each c.args.image.now c.args.input.now c.is_capacity.ensures c.if-not-is_capacity.false-raw _ c.rebuild.auto.image (c.restore_each.ensures.result_value, c.restore_each.ensures.image_after) in record { result_value = the_whole.0; image_after = the_whole.1 }

@@ -33,15 +33,12 @@ lay_whole-requires c =
 
 pub returns-in-Done : goal.returns-in-Done
 returns-in-Done c =
-    laid_done c.args.image.now c.args.input.now c.requires.0 c.run.new.w _ c.run.ensures c.in
-    let the_whole = -Done.is c.lay.ensures in record { result_value = the_whole.0; image_after = the_whole.1 }
+    let the_whole = laid_done c.args.image.now c.args.input.now c.requires.0 c.run.new.w _ c.run.ensures c.in-Done.is c.lay.ensures in record { result_value = the_whole.0; image_after = the_whole.1 }
 
 pub returns-in-Unread : goal.returns-in-Unread
 returns-in-Unread c =
-    laid_unread c.args.image.now c.args.input.now c.requires.0 c.run.new.w _ c.run.ensures c.in-Unread.is c.lay-in
-    let the_whole = -Unread.ensures in record { result_value = the_whole.0; image_after = the_whole.1 }
+    let the_whole = laid_unread c.args.image.now c.args.input.now c.requires.0 c.run.new.w _ c.run.ensures c.in-Unread.is c.lay-in-Unread.ensures in record { result_value = the_whole.0; image_after = the_whole.1 }
 
 pub returns-in-Refused : goal.returns-in-Refused
 returns-in-Refused c =
-    laid-refused c.args.image.now c.args.input.now c.requires.0 c.run.new.w _ c.run.ensures c.in
-    let the_whole = -Refused.is c.lay_whole.ensures in record { result_value = the_whole.0; image_after = the_whole.1 }
+    let the_whole = laid-refused c.args.image.now c.args.input.now c.requires.0 c.run.new.w _ c.run.ensures c.in-Refused.is c.lay_whole.ensures in record { result_value = the_whole.0; image_after = the_whole.1 }

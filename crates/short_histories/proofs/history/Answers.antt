@@ -39,4 +39,4 @@ pub returns-in-History : goal.returns-in-History
 returns-in-History c =
     let counted : CountAs c.args.input.now (Records c.in-Records.n) = subst (CountAs _) c.in-Records.is c.count_records.ensures in
     let a = c.args in
-    let the_whole = history_written a.input.now a.number a.out.now counted c.if-n-eq0.false (subst (FoundAs _ _) c.in-History.is c.find_history.ensures) c.emit_history.ensures in record { result_value = the_whole.0; out_after = the_whole.1 }
+    let the_whole = history_written a.input.now a.number a.out.now counted c.if-n-eq0.false (subst (FoundAs _ _) c.in-History.is c.find_history.ensures) (c.emit_history.ensures.result_value, c.emit_history.ensures.out_after) in record { result_value = the_whole.0; out_after = the_whole.1 }

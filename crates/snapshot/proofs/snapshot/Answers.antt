@@ -11,4 +11,4 @@ emit_records-requires c = image_is _ c.args.out.now c.is_image.ensures c.if-not-
 
 pub returns : goal.returns
 returns c =
-    let the_whole = said _ c.args.out.now c.is_image.ensures c.if-not-is_image.false-raw c.emit_records.ensures in record { result_value = the_whole.0; out_after = the_whole.1 }
+    let the_whole = said _ c.args.out.now c.is_image.ensures c.if-not-is_image.false-raw (c.emit_records.ensures.result_value, c.emit_records.ensures.out_after) in record { result_value = the_whole.0; out_after = the_whole.1 }

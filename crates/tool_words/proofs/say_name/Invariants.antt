@@ -4,7 +4,7 @@ use lib.ListN.{length}
 use Rattle.tool_words.proofs.say_name.Given as goal
 
 abbrev pub invariant-loop-at : goal.invariant-loop-at
-invariant-loop-at l = at ≤ length l.name
+invariant-loop-at l = l.at ≤ length l.name
 
 abbrev pub decreases-loop-at : goal.decreases-loop-at
-decreases-loop-at l = length l.name - at
+decreases-loop-at l = length l.name - l.at

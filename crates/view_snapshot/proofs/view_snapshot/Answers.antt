@@ -15,4 +15,4 @@ emit_seen-requires c =
 
 pub returns : goal.returns
 returns c =
-    let the_whole = said _ _ c.args.out.now c.viewer_fault-f.ensures c.if-f-ne0.false c.emit_seen.ensures in record { result_value = the_whole.0; out_after = the_whole.1 }
+    let the_whole = said _ _ c.args.out.now c.viewer_fault-f.ensures c.if-f-ne0.false (c.emit_seen.ensures.result_value, c.emit_seen.ensures.out_after) in record { result_value = the_whole.0; out_after = the_whole.1 }

@@ -22,4 +22,4 @@ emit_freeze-requires c =
 pub returns : goal.returns
 returns c =
     let the_whole = freeze-found c.args.image.now _ _ c.args.out.now c.query_fault-f.ensures c.if-f-ne0.false
-    (lent-held _ c.reals_end-end.ensures) c.emit_freeze.ensures in record { result_value = the_whole.0; out_after = the_whole.1 }
+    (lent-held _ c.reals_end-end.ensures) (c.emit_freeze.ensures.result_value, c.emit_freeze.ensures.out_after) in record { result_value = the_whole.0; out_after = the_whole.1 }

@@ -20,4 +20,4 @@ entry-requires c =
 pub returns : goal.returns
 returns c =
     let the_whole = partition-found c.args.image.now _ _ c.args.out.now c.query_fault-f.ensures c.if-f-ne0.false _ _ c.put.ensures
-    c.entry.ensures in record { result_value = the_whole.0; out_after = the_whole.1 }
+    (c.entry.ensures.result_value, c.entry.ensures.out_after) in record { result_value = the_whole.0; out_after = the_whole.1 }

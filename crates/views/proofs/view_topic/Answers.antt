@@ -15,4 +15,4 @@ entry-requires c =
 
 pub returns : goal.returns
 returns c =
-    let the_whole = topic_found c.args.image.now _ _ c.args.out.now c.query_fault-f.ensures c.if-f-ne0.false c.entry.ensures in record { result_value = the_whole.0; out_after = the_whole.1 }
+    let the_whole = topic_found c.args.image.now _ _ c.args.out.now c.query_fault-f.ensures c.if-f-ne0.false (c.entry.ensures.result_value, c.entry.ensures.out_after) in record { result_value = the_whole.0; out_after = the_whole.1 }

@@ -4,7 +4,7 @@ use lib.ListN.{length}
 use Rattle.tool_details.proofs.lists.say_all_nodes.Given as goal
 
 abbrev pub invariant-loop-at : goal.invariant-loop-at
-invariant-loop-at l = at ≤ length l.list
+invariant-loop-at l = l.at ≤ length l.list
 
 abbrev pub decreases-loop-at : goal.decreases-loop-at
-decreases-loop-at l = length l.list - at
+decreases-loop-at l = length l.list - l.at
