@@ -1,0 +1,21 @@
+-- `jeghatuf::conversions::jeghatuf_with_offset` meets its contract: a number for each end, and what comes with it.
+use Rattle.jeghatuf.proofs.Packs.{run-written, run-refused, run-stopped}
+use Rattle.jeghatuf.proofs.conversions.jeghatuf_with_offset.Goals as goal
+
+pub returns-in-Written : goal.returns-in-Written
+returns-in-Written c =
+    let e = c.with_offset.ensures in
+    let p = run-written e.result_value c.in-Written.is _ c.put_first.ensures in
+    let the_whole = (p.0, (e.out_after, p.1)) in record { value = the_whole.0; out_after = the_whole.1; value_after = the_whole.2 }
+
+pub returns-in-Refused : goal.returns-in-Refused
+returns-in-Refused c =
+    let e = c.with_offset.ensures in
+    let p = run-refused e.result_value c.in-Refused.is c.alone.ensures _ in
+    let the_whole = (p.0, (e.out_after, p.1)) in record { value = the_whole.0; out_after = the_whole.1; value_after = the_whole.2 }
+
+pub returns-in-Stopped : goal.returns-in-Stopped
+returns-in-Stopped c =
+    let e = c.with_offset.ensures in
+    let p = run-stopped e.result_value c.in-Stopped.is c.alone-in-Stopped.ensures _ c.put_first-in-Stopped.ensures in
+    let the_whole = (p.0, (e.out_after, p.1)) in record { value = the_whole.0; out_after = the_whole.1; value_after = the_whole.2 }

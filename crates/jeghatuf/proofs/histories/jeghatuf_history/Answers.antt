@@ -1,0 +1,9 @@
+-- `jeghatuf::histories::jeghatuf_history` meets its contract: its answer in one number.
+use mathlib.Core.Path.{ap, ◌∙◌}
+use Rattle.packing.specs.Packed.{packed}
+use Rattle.jeghatuf.proofs.histories.jeghatuf_history.Goals as goal
+
+pub returns : goal.returns
+returns c =
+    let e = c.history.ensures in
+    record { value = c.pack.ensures ∙ ap packed e.result_value; out_after = e.out_after }

@@ -1,0 +1,9 @@
+-- `jeghatuf::images::jeghatuf_topic` meets its contract: the lookup's answer in one number.
+use mathlib.Core.Path.{ap, ◌∙◌}
+use Rattle.packing.specs.Packed.{packed}
+use Rattle.jeghatuf.proofs.images.jeghatuf_topic.Goals as goal
+
+pub returns : goal.returns
+returns c =
+    let e = c.topic.ensures in
+    record { value = c.pack.ensures ∙ ap packed e.result_value; out_after = e.out_after }

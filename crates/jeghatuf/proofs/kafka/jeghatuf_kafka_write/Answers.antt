@@ -1,0 +1,9 @@
+-- `jeghatuf::kafka::jeghatuf_kafka_write` meets its contract: its answer in one number.
+use mathlib.Core.Path.{ap, ◌∙◌}
+use Rattle.packing.specs.Packed.{packed}
+use Rattle.jeghatuf.proofs.kafka.jeghatuf_kafka_write.Goals as goal
+
+pub returns : goal.returns
+returns c =
+    let e = c.write.ensures in
+    record { value = c.pack.ensures ∙ ap packed e.result_value; out_after = e.out_after }
