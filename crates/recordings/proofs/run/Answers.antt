@@ -35,7 +35,7 @@ overflow_add-k c =
                     let a = c.args in
     let i = c.loop-n.invariant in
     let turn = c.turn_both in
-    let p = turn_places _ a.one.now a.other.now _ _ _ _ _ _ i.0 turn.new.first turn.new.second.0 _ turn.ensures c.in-On.is in
+    let p = turn_places _ a.one.now a.other.now _ _ _ _ _ _ i.0 turn.new.first turn.new.second _ turn.ensures c.in-On.is in
     omega (arith, p.0, p.1, i.0.counted, c.well_formed)
 
 pub overflow_add-at : goal.overflow_add-at
@@ -43,7 +43,7 @@ overflow_add-at c =
                     let a = c.args in
     let i = c.loop-n.invariant in
     let turn = c.turn_both in
-    let p = turn_places _ a.one.now a.other.now _ _ _ _ _ _ i.0 turn.new.first turn.new.second.0 _ turn.ensures c.in-On.is in
+    let p = turn_places _ a.one.now a.other.now _ _ _ _ _ _ i.0 turn.new.first turn.new.second _ turn.ensures c.in-On.is in
     omega (arith, p.1, c.well_formed)
 
 pub overflow_add-to : goal.overflow_add-to
@@ -51,7 +51,7 @@ overflow_add-to c =
                     let a = c.args in
     let i = c.loop-n.invariant in
     let turn = c.turn_both in
-    let p = turn_places _ a.one.now a.other.now _ _ _ _ _ _ i.0 turn.new.first turn.new.second.0 _ turn.ensures c.in-On.is in
+    let p = turn_places _ a.one.now a.other.now _ _ _ _ _ _ i.0 turn.new.first turn.new.second _ turn.ensures c.in-On.is in
     omega (arith, p.2, c.well_formed)
 
 pub loop-n-smaller : goal.loop-n-smaller
@@ -59,7 +59,7 @@ loop-n-smaller c =
                     let a = c.args in
     let i = c.loop-n.invariant in
     let turn = c.turn_both in
-    let p = turn_places _ a.one.now a.other.now _ _ _ _ _ _ i.0 turn.new.first turn.new.second.0 _ turn.ensures c.in-On.is in
+    let p = turn_places _ a.one.now a.other.now _ _ _ _ _ _ i.0 turn.new.first turn.new.second _ turn.ensures c.in-On.is in
     omega (arith, p.0, p.1)
 
 pub loop-n-preserved : goal.loop-n-preserved
@@ -67,8 +67,8 @@ loop-n-preserved c =
                     let a = c.args in
     let i = c.loop-n.invariant in
     let turn = c.turn_both in (
-      turned _ a.one.now a.other.now _ _ _ _ _ _ i.0 turn.new.first turn.new.second.0 _ turn.ensures c.in-On.is,
-      omega (arith, i.1, turn.auto.second.1.0),
+      turned _ a.one.now a.other.now _ _ _ _ _ _ i.0 turn.new.first turn.new.second _ turn.ensures c.in-On.is,
+      omega (arith, i.1, turn.auto.spare),
     )
 
 pub shape_of-first-in-Parted : goal.shape_of-first-in-Parted
@@ -87,7 +87,7 @@ pub returns-in-Parted : goal.returns-in-Parted
 returns-in-Parted c =
     let a = c.args in
     let turn = c.turn_both in
-    let p = run_parted _ a.one.now a.other.now _ _ _ _ _ _ c.loop-n.invariant.0 turn.new.first turn.new.second.0 _ turn.ensures c.in-Parted.is in
+    let p = run_parted _ a.one.now a.other.now _ _ _ _ _ _ c.loop-n.invariant.0 turn.new.first turn.new.second _ turn.ensures c.in-Parted.is in
     let the_whole = (p.0, (p.1, p.2)) in record { result_value = the_whole.0; first_after = the_whole.1; second_after = the_whole.2 }
 
 pub shape_of-first-in-Agree : goal.shape_of-first-in-Agree
@@ -106,5 +106,5 @@ pub returns-in-Agree : goal.returns-in-Agree
 returns-in-Agree c =
     let a = c.args in
     let turn = c.turn_both in
-    let p = run_agree _ a.one.now a.other.now _ _ _ _ _ _ c.loop-n.invariant.0 turn.new.first turn.new.second.0 _ turn.ensures c.in-Agree.is in
+    let p = run_agree _ a.one.now a.other.now _ _ _ _ _ _ c.loop-n.invariant.0 turn.new.first turn.new.second _ turn.ensures c.in-Agree.is in
     let the_whole = (p.0, (p.1, p.2)) in record { result_value = the_whole.0; first_after = the_whole.1; second_after = the_whole.2 }

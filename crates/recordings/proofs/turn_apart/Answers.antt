@@ -21,7 +21,7 @@ returns-in-On c =
     let copy = copied a.spare.now a.first.now (sym c.requires.3) c.copy.ensures in
     let moved = on_copy copy a.offset a.one.now c.advance.new.image _ c.advance.ensures in
         let on = moved (stand.On c.in-On.n) c.in-On.is in
-    turn_asked a.first.now a.second.now a.offset a.one.now a.other.now c.requires.2 c.same_snapshots.ensures c.if-not-same_snapshots.false-raw on c.ask_second.new.first c.ask_second.new.second.0 c.ask_second.result
+    turn_asked a.first.now a.second.now a.offset a.one.now a.other.now c.requires.2 c.same_snapshots.ensures c.if-not-same_snapshots.false-raw on c.ask_second.new.first c.ask_second.new.second c.ask_second.result
     c.ask_second.ensures
 
 pub returns-in-Over : goal.returns-in-Over

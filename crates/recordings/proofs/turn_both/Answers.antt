@@ -15,7 +15,7 @@ turn_apart-requires-in-Nothing c =
                     let a = c.args in
     let both = c.advance_both in
     let same = c.requires.4 (not-false _ c.if-not-equal.false-raw) in
-    let p = subst (SharedAs a.first.now a.offset a.one.now a.other.now both.new.first both.new.second.0) c.in-Nothing.is both.ensures in
+    let p = subst (SharedAs a.first.now a.offset a.one.now a.other.now both.new.first both.new.second) c.in-Nothing.is both.ensures in
     (subst Sound (sym p.0) c.requires.0, subst Sound (sym p.1) c.requires.0, ap length (p.1 ∙ sym p.0), c.requires.3 ∙ ap length (sym p.0))
 
 pub returns-in-Moved : goal.returns-in-Moved
@@ -23,13 +23,13 @@ returns-in-Moved c =
                     let a = c.args in
     let both = c.advance_both in
     let same = c.requires.4 (not-false _ c.if-not-equal.false-raw) in
-    turn_shared same (subst (SharedAs a.first.now a.offset a.one.now a.other.now both.new.first both.new.second.0) c.in-Moved.is both.ensures)
+    turn_shared same (subst (SharedAs a.first.now a.offset a.one.now a.other.now both.new.first both.new.second) c.in-Moved.is both.ensures)
 
 pub returns-in-Nothing : goal.returns-in-Nothing
 returns-in-Nothing c =
                     let a = c.args in
     let both = c.advance_both in
     let same = c.requires.4 (not-false _ c.if-not-equal.false-raw) in
-        let p = subst (SharedAs a.first.now a.offset a.one.now a.other.now both.new.first both.new.second.0) c.in-Nothing.is both.ensures in
-    turn_again a.offset a.one.now a.other.now (p.0, p.1 ∙ sym same) c.turn_apart-in-Nothing.new.first c.turn_apart-in-Nothing.new.second.0 c.turn_apart-in-Nothing.result
+        let p = subst (SharedAs a.first.now a.offset a.one.now a.other.now both.new.first both.new.second) c.in-Nothing.is both.ensures in
+    turn_again a.offset a.one.now a.other.now (p.0, p.1 ∙ sym same) c.turn_apart-in-Nothing.new.first c.turn_apart-in-Nothing.new.second c.turn_apart-in-Nothing.result
     c.turn_apart-in-Nothing.ensures

@@ -23,7 +23,7 @@ pub restore_each-requires : goal.restore_each-requires
 restore_each-requires c =
                 (
       capacity-kept c.args.image.now c.args.input.now c.is_capacity.ensures c.if-not-is_capacity.false-raw c.rebuild.new.image c.rebuild.auto.image,
-      omega (arith, c.rebuild.auto.w.0),
+      omega (arith, c.rebuild.auto.w),
     )
 
 pub returns : goal.returns

@@ -27,8 +27,8 @@ lay_whole-requires c =
       refused-whole (length c.args.image.now) c.args.input.now c.run.new.w _ c.run.ensures c.in-Refused.is,
       c.requires.0,
       omega (arith, c.run.auto.w, c.requires.1),
-      omega (arith, c.run.auto.a.0),
-      omega (arith, c.run.auto.a.1.0),
+      omega (arith, c.run.auto.a),
+      omega (arith, c.run.auto.b),
     )
 
 pub returns-in-Done : goal.returns-in-Done

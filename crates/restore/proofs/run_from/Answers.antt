@@ -38,8 +38,8 @@ loop-at-preserved c =
     let next = c.next_record in (
       turned a.capacity a.input.now _ _ c.loop-at.state c.loop-at.invariant.0 next.new.w _ next.ensures c.in-Moved.is,
       omega (arith, c.loop-at.invariant.1, next.auto.w),
-      omega (arith, c.loop-at.invariant.2, next.auto.a.0),
-      omega (arith, c.loop-at.invariant.3, next.auto.a.1.0),
+      omega (arith, c.loop-at.invariant.2, next.auto.a),
+      omega (arith, c.loop-at.invariant.3, next.auto.b),
     )
 
 pub shape_of-w-in-Unread : goal.shape_of-w-in-Unread
@@ -48,11 +48,11 @@ shape_of-w-in-Unread c =
 
 pub shape_of-a-in-Unread : goal.shape_of-a-in-Unread
 shape_of-a-in-Unread c =
-            omega (arith, c.loop-at.invariant.2, c.next_record.auto.a.0)
+            omega (arith, c.loop-at.invariant.2, c.next_record.auto.a)
 
 pub shape_of-b-in-Unread : goal.shape_of-b-in-Unread
 shape_of-b-in-Unread c =
-            omega (arith, c.loop-at.invariant.3, c.next_record.auto.a.1.0)
+            omega (arith, c.loop-at.invariant.3, c.next_record.auto.b)
 
 pub returns-in-Unread : goal.returns-in-Unread
 returns-in-Unread c =
@@ -66,11 +66,11 @@ shape_of-w-in-Refused c =
 
 pub shape_of-a-in-Refused : goal.shape_of-a-in-Refused
 shape_of-a-in-Refused c =
-            omega (arith, c.loop-at.invariant.2, c.next_record.auto.a.0)
+            omega (arith, c.loop-at.invariant.2, c.next_record.auto.a)
 
 pub shape_of-b-in-Refused : goal.shape_of-b-in-Refused
 shape_of-b-in-Refused c =
-            omega (arith, c.loop-at.invariant.3, c.next_record.auto.a.1.0)
+            omega (arith, c.loop-at.invariant.3, c.next_record.auto.b)
 
 pub returns-in-Refused : goal.returns-in-Refused
 returns-in-Refused c =

@@ -16,7 +16,7 @@ pub shape_of-work-then-not-input : goal.shape_of-work-then-not-input
 shape_of-work-then-not-input c = c.loop-turns.invariant.2
 
 pub shape_of-chunk-then-not-input : goal.shape_of-chunk-then-not-input
-shape_of-chunk-then-not-input c = omega (arith, c.next_line-input.auto.chunk.0, c.loop-turns.invariant.3)
+shape_of-chunk-then-not-input c = omega (arith, c.next_line-input.auto.chunk, c.loop-turns.invariant.3)
 
 pub slice_bounds-answer-end : goal.slice_bounds-answer-end
 slice_bounds-answer-end c = c.next_line-input.ensures.0
@@ -28,9 +28,9 @@ pub loop-turns-preserved : goal.loop-turns-preserved
 loop-turns-preserved c =
             (
       omega (arith, c.next_line-input.auto.bytes, c.loop-turns.invariant.0),
-      omega (arith, c.answer.auto.work.0, c.loop-turns.invariant.1),
-      omega (arith, c.answer.auto.work.1.0, c.loop-turns.invariant.2),
-      omega (arith, c.next_line-input.auto.chunk.0, c.loop-turns.invariant.3),
+      omega (arith, c.answer.auto.work, c.loop-turns.invariant.1),
+      omega (arith, c.answer.auto.1.1.0, c.loop-turns.invariant.2),
+      omega (arith, c.next_line-input.auto.chunk, c.loop-turns.invariant.3),
     )
 
 pub shape_of-bytes : goal.shape_of-bytes

@@ -14,7 +14,7 @@ shape_of-work-then-not-input c = c.loop-turns.invariant.1
 
 pub shape_of-chunk-then-not-input : goal.shape_of-chunk-then-not-input
 shape_of-chunk-then-not-input c =
-    omega (arith, c.next_line-input.auto.chunk.0, c.loop-turns.invariant.2)
+    omega (arith, c.next_line-input.auto.chunk, c.loop-turns.invariant.2)
 
 pub slice_bounds-answer-end : goal.slice_bounds-answer-end
 slice_bounds-answer-end c = c.next_line-input.ensures.0
@@ -27,7 +27,7 @@ loop-turns-preserved c =
         (
       omega (arith, c.next_line-input.auto.bytes, c.loop-turns.invariant.0),
       omega (arith, c.answer.auto.1.0, c.loop-turns.invariant.1),
-      omega (arith, c.next_line-input.auto.chunk.0, c.loop-turns.invariant.2),
+      omega (arith, c.next_line-input.auto.chunk, c.loop-turns.invariant.2),
     )
 
 pub shape_of-bytes : goal.shape_of-bytes

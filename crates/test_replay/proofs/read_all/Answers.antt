@@ -17,7 +17,7 @@ shape_of-out-then-not-input c = c.loop-place.invariant.2
 
 pub shape_of-chunk-then-not-input : goal.shape_of-chunk-then-not-input
 shape_of-chunk-then-not-input c =
-    omega (arith, c.next_line-input.auto.chunk.0, c.loop-place.invariant.3)
+    omega (arith, c.next_line-input.auto.chunk, c.loop-place.invariant.3)
 
 pub slice_bounds-answer-end : goal.slice_bounds-answer-end
 slice_bounds-answer-end c = c.next_line-input.ensures.0
@@ -29,9 +29,9 @@ pub loop-place-preserved : goal.loop-place-preserved
 loop-place-preserved c =
             (
       omega (arith, c.next_line-input.auto.bytes, c.loop-place.invariant.0),
-      omega (arith, c.answer-capacity.auto.out.0, c.loop-place.invariant.1),
-      omega (arith, c.answer-capacity.auto.out.1.0, c.loop-place.invariant.2),
-      omega (arith, c.next_line-input.auto.chunk.0, c.loop-place.invariant.3),
+      omega (arith, c.answer-capacity.auto.out, c.loop-place.invariant.1),
+      omega (arith, c.answer-capacity.auto.1.1.0, c.loop-place.invariant.2),
+      omega (arith, c.next_line-input.auto.chunk, c.loop-place.invariant.3),
     )
 
 pub shape_of-bytes : goal.shape_of-bytes

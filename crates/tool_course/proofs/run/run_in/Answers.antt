@@ -15,7 +15,7 @@ loop-cuts-preserved c =
     let kept = c.turn-course.auto in (
       omega (arith, c.refill-source.auto, inv.0),
       omega (arith, kept.plain, inv.1),
-      omega (arith, kept.other, inv.2),
+      omega (arith, kept.1, inv.2),
       c.passed-source.ensures.0,
       omega (arith, c.passed-source.ensures.1, c.refill-source.ensures.1, c.refill-source.auto),
     )
