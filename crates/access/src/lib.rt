@@ -1,5 +1,7 @@
 // Field access by tag and by name, on the record that some bytes begin with. Later bytes are not looked at, and a record that is cut has no
 // fields.
+#![tactic(auto)]
+
 ghost use Rattle.std.specs.Prelude.{◌≡◌, ◌≤◌};
 ghost use Rattle.model.specs.Number.{span};
 ghost use Rattle.model.specs.Run.{run_of};

@@ -1,4 +1,6 @@
 // Apply: what a record makes of an image, or a refusal that changes nothing.
+#![tactic(auto)]
+
 ghost use Rattle.std.specs.Prelude.{◌≡◌, true, length};
 ghost use Rattle.model.specs.Image.{is_image, contents_of};
 ghost use Rattle.model.specs.Apply.{apply as applied, dated_by, is_later, apply_at, laid, apply_of};

@@ -1,4 +1,6 @@
 // Changes of brokers' registrations on a work array.
+#![tactic(auto)]
+
 mod steps;
 
 ghost use Rattle.std.specs.Prelude.{◌≡◌, ◌+◌, ◌≤◌, length};

@@ -1,4 +1,6 @@
 // Assignments of directories to replicas of partitions, on a work array.
+#![tactic(auto)]
+
 mod directories;
 
 ghost use Rattle.std.specs.Prelude.{◌≡◌, ◌+◌, ◌≤◌, length, take};

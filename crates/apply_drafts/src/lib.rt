@@ -1,4 +1,6 @@
 // A record that is built in a lent buffer: begun, or copied from another, and then changed a field at a time.
+#![tactic(auto)]
+
 ghost use Rattle.std.specs.Prelude.{◌≡◌, ◌+◌, ◌<◌, ◌≤◌, length, take};
 ghost use Rattle.model.specs.Run.{done, set_field};
 ghost use Rattle.keys.specs.Keys.{kind_in, run_in};

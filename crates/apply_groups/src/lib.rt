@@ -1,4 +1,6 @@
 // The configs of a node and the quotas of an entity list are groups: a member joins its group on a work array or leaves it.
+#![tactic(auto)]
+
 ghost use Rattle.std.specs.Prelude.{◌≡◌, true, ◌||◌, [], ◌∷◌, ◌+◌, ◌≤◌, length, take};
 ghost use Rattle.model.specs.Run.{values};
 ghost use Rattle.model.specs.Record.{record_bytes};

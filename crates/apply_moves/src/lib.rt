@@ -1,4 +1,6 @@
 // Moves of single entries on a work array, but for topics, partitions and members of groups.
+#![tactic(auto)]
+
 ghost use Rattle.std.specs.Prelude.{[], ◌∷◌, ◌+◌, ◌≤◌, length};
 ghost use Rattle.model.specs.Contents.{storable};
 ghost use Rattle.model.specs.Move.{drop_m, set_or_drop};

@@ -1,4 +1,6 @@
 // Advances of partition offsets: an advance is added to the stored offset, and the sum is stored in its place.
+#![tactic(auto)]
+
 ghost use Rattle.std.specs.Prelude.{◌≡◌, ◌+◌, ◌≤◌, length, take};
 ghost use Rattle.model.specs.Number.{number, place};
 ghost use Rattle.model.specs.Run.{value};

@@ -1,4 +1,6 @@
 // Topics' entries changed where they stand in a work array. An entry's length stays, so no other byte moves.
+#![tactic(auto)]
+
 ghost use Rattle.std.specs.Prelude.{◌≡◌, map, ◌≤◌, ◌<◌};
 ghost use Rattle.model.specs.Move.{clear_named, count_partition};
 ghost use Rattle.model.specs.Image.{entry_of};

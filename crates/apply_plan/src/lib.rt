@@ -1,4 +1,6 @@
 // The moves of a record, made on a work array and its fixed parts: the kind number decides.
+#![tactic(auto)]
+
 mod epochs;
 mod members;
 mod states;

@@ -1,4 +1,6 @@
 // A record's moves on a work array, or a refusal. The image itself is not changed.
+#![tactic(auto)]
+
 ghost use Rattle.std.specs.Prelude.{◌≡◌, true, ◌≤◌, length};
 ghost use Rattle.model.specs.Contents.{key};
 ghost use Rattle.model.specs.Image.{is_image, contents_of};

@@ -1,4 +1,6 @@
 // Moves of topics and partitions on a work array.
+#![tactic(auto)]
+
 mod old;
 
 ghost use Rattle.std.specs.Prelude.{◌≡◌, true, [], ◌∷◌, ◌+◌, ◌≤◌, length, take};

@@ -1,4 +1,6 @@
 // A partition's update: moves of its partition, of its ELR and of its recovery.
+#![tactic(auto)]
+
 mod built;
 
 ghost use Rattle.std.specs.Prelude.{◌≡◌, ◌+◌, ◌*◌, ◌≤◌, length};

@@ -1,4 +1,6 @@
 // The work array of Apply: an image's real entries and its empty groups, back to back in a lent buffer.
+#![tactic(auto)]
+
 mod layout;
 
 ghost use Rattle.std.specs.Prelude.{◌≡◌, true, map, ◌+◌, ◌≤◌, length};

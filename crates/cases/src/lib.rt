@@ -1,1 +1,2 @@
 // The marked cases: see `specs/`.
+#![tactic(auto)]

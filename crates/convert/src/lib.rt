@@ -1,4 +1,6 @@
 // Snapshots from before the log offset: the old form in the new one, and back. Records are read, not applied.
+#![tactic(auto)]
+
 ghost use Rattle.std.specs.Prelude.{◌≡◌, ◌++◌, ◌≤◌, length, drop};
 ghost use Rattle.model.specs.Shape.{framed};
 ghost use Rattle.model.specs.Record.{record_bytes};

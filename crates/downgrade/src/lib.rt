@@ -1,4 +1,6 @@
 // Downgrade: the records that take an image to a metadata level.
+#![tactic(auto)]
+
 ghost use Rattle.std.specs.Prelude.{◌≡◌, true, ◌+◌, ◌*◌, ◌≤◌, length};
 ghost use Rattle.model.specs.Image.{is_image, contents_of};
 ghost use Rattle.model.specs.Snapshot.{emit};

@@ -1,4 +1,6 @@
 // A broker as a metadata level knows it: with no log dirs below 17, and without cordoned dirs below 30.
+#![tactic(auto)]
+
 ghost use Rattle.std.specs.Prelude.{◌≡◌, ◌+◌, ◌<◌, ◌≤◌, length};
 ghost use Rattle.model.specs.Run.{bytes_of};
 ghost use Rattle.model.specs.Downgrade.{is_under};

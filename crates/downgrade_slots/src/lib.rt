@@ -1,5 +1,7 @@
 // The directory assignments of a partition: a record for each slot that both its replicas and its directories have, unless the slot's
 // directory is MIGRATING, all zeros.
+#![tactic(auto)]
+
 ghost use Rattle.std.specs.Prelude.{◌≡◌, ◌+◌, ◌*◌, ◌≤◌, length};
 ghost use Rattle.model.specs.Number.{bytes};
 ghost use Rattle.model.specs.Record.{record_bytes};

@@ -1,4 +1,6 @@
 // Entries: a sorted map of encoded records in a part of a lent buffer.
+#![tactic(auto)]
+
 mod topics;
 
 ghost use Rattle.std.specs.Prelude.{◌≡◌, ◌++◌, ◌+◌, ◌-◌, ◌≤◌, length, take};

@@ -1,4 +1,6 @@
 // A cursor over the fields of a run: its steps take it by value and hand the next one back.
+#![tactic(auto)]
+
 ghost use Rattle.std.specs.Prelude.{◌≡◌};
 ghost use Rattle.fields.specs.Fields.{fields_from, Inside, told, Onward, place_of};
 

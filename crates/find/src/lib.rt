@@ -1,4 +1,6 @@
 // Entries by what a query names, and the answer that a lookup gives of one.
+#![tactic(auto)]
+
 mod bounds;
 mod brokers;
 mod query;

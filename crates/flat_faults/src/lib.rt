@@ -1,4 +1,6 @@
 // What is wrong with a record's fields, quickly where nothing is: most records have one field for each row of their shape, in order, and none is a run.
+#![tactic(auto)]
+
 ghost use Rattle.std.specs.Prelude.{◌≡◌, true, false, ◌-◌, ◌/◌, ◌%◌, ◌≤◌, ◌<◌, length, leb};
 ghost use Rattle.std.proofs.Math.Option.{none};
 ghost use Rattle.std.proofs.Math.Seq.{slice};

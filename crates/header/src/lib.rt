@@ -1,5 +1,7 @@
 // The header of an image: its mark and version, the used length, the features epoch, the kraft version and the log offset. And Open, which
 // writes a fresh one.
+#![tactic(auto)]
+
 ghost use Rattle.std.specs.Prelude.{◌≡◌, ◌++◌, ◌<◌, ◌≤◌, length, drop};
 ghost use Rattle.model.specs.Number.{span};
 ghost use Rattle.model.specs.Image.{is_capacity, head_size, header, used_in, fixed_in, header_ok, open_of};

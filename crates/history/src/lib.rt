@@ -1,1 +1,2 @@
 // Demand 3: a restart changes no later answer. See `specs/`.
+#![tactic(auto)]

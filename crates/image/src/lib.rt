@@ -1,4 +1,6 @@
 // The exact test: whether a buffer is an image.
+#![tactic(auto)]
+
 ghost use Rattle.std.specs.Prelude.{◌≡◌, true, ◌&&◌, ◌+◌, ◌*◌, ◌≤◌, ◌<◌, length};
 ghost use Rattle.model.specs.Choice.{is_some};
 ghost use Rattle.model.specs.Key.{producer_key};

@@ -1,4 +1,6 @@
 // Topics' counts: each at most its partitions' number, in one walk over the topics and one beside it over the partitions.
+#![tactic(auto)]
+
 ghost use Rattle.std.specs.Prelude.{◌≡◌, true, ◌≤◌, length};
 ghost use Rattle.model.specs.Choice.{every};
 ghost use Rattle.model.specs.Order.{ordering};

@@ -1,4 +1,6 @@
 // What the exact image test asks of each entry by itself, straight from the entries' bytes.
+#![tactic(auto)]
+
 mod entities;
 mod kinds;
 mod values;

@@ -1,4 +1,6 @@
 // Whether empty groups have no member among an image's entries: one walk over both, as each is in the order of its keys.
+#![tactic(auto)]
+
 mod members;
 
 ghost use Rattle.std.specs.Prelude.{◌≡◌, true};

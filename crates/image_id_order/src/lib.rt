@@ -1,5 +1,7 @@
 // Rows of two numbers: whether no two are the same, in a time that goes by how many there are and not by the numbers. The rows are put in order
 // without a promise, and the order is tested.
+#![tactic(auto)]
+
 mod sorting;
 
 ghost use Rattle.std.specs.Prelude.{◌≡◌, true, ◌<◌, ◌≤◌, length};

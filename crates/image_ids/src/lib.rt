@@ -1,5 +1,7 @@
 // Ids: whether no two topics are named for one. A table of marks tells most ids that are new; the entries before are looked through only
 // where an id's mark is there.
+#![tactic(auto)]
+
 ghost use Rattle.std.specs.Prelude.{◌≡◌, true, not, map, ◌<◌, length};
 ghost use Rattle.model.specs.Choice.{every};
 ghost use Rattle.model.specs.Contents.{names_id, named_apart};

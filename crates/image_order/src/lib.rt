@@ -1,4 +1,6 @@
 // Whether bytes are an image's entries: stored records back to back, in the order of their keys.
+#![tactic(auto)]
+
 ghost use Rattle.std.specs.Prelude.{◌≡◌};
 ghost use Rattle.model.specs.Shape.{stored};
 ghost use Rattle.model.specs.Items.{items_of, is_whole};

@@ -1,5 +1,7 @@
 // The entry points for programs in other languages. Each answers with one number: 01's number times 2^32, and the value that comes with it,
 // which is below 2^32. `unpacked` (`specs/Unpacked.antt`) proves for each of them that both are got back.
+#![tactic(auto)]
+
 mod comparisons;
 mod conversions;
 mod histories;

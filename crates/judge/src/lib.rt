@@ -1,4 +1,6 @@
 // What Validate says of a record against an image's real entries.
+#![tactic(auto)]
+
 mod brokers;
 mod lookups;
 mod names;

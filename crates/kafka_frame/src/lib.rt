@@ -1,4 +1,6 @@
 // What Kafka's messages have in common: KIP-631's frame before their fields, and the tagged fields behind them, which are skipped.
+#![tactic(auto)]
+
 ghost use Rattle.std.specs.Prelude.{◌≡◌, false, cond, ℕ, ◌≤◌, eqb, length, drop};
 ghost use Rattle.model.specs.Number.{Bytes};
 ghost use Rattle.model.specs.Record.{Rec};

@@ -1,4 +1,6 @@
 // Reading Kafka's own record bytes: one record of the metadata log, whose message becomes a record of ours. Parts are judged in byte order.
+#![tactic(auto)]
+
 mod emit;
 mod message;
 

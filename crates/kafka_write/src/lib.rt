@@ -1,4 +1,6 @@
 // Writing a record of ours in Kafka's own bytes: KIP-631's frame around a message of Kafka's.
+#![tactic(auto)]
+
 ghost use Rattle.std.specs.Prelude.{◌≡◌, [], ◌∷◌, ◌≤◌, length};
 ghost use Rattle.model.specs.Answers.{replied};
 ghost use Rattle.model.specs.Reply.{emit_bytes};

@@ -1,4 +1,6 @@
 // Keys: how two encoded records stand to each other in an image, straight from their bytes.
+#![tactic(auto)]
+
 mod entities;
 mod values;
 

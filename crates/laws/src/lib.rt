@@ -1,1 +1,2 @@
 // Laws of the definitions: numbers, orders, maps. See `specs/`.
+#![tactic(auto)]

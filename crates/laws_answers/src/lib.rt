@@ -1,1 +1,2 @@
 // Laws of the values that come with answers. See `specs/`.
+#![tactic(auto)]

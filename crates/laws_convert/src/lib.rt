@@ -1,1 +1,2 @@
 // Laws of snapshots in the old form and the new one. See `specs/`.
+#![tactic(auto)]

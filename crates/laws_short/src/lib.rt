@@ -1,1 +1,2 @@
 // Laws of the numbers of short histories. See `specs/`.
+#![tactic(auto)]

@@ -1,5 +1,7 @@
 // The freeze of a name from a run of encoded records: one pass forward over the records, and no image. A later freeze record of a pattern and scope
 // takes the place of an earlier one, which is to look back for the last.
+#![tactic(auto)]
+
 ghost use Rattle.std.specs.Prelude.{◌≡◌, ◌+◌, ◌≤◌, ◌<◌, length, replicate};
 ghost use Rattle.model.specs.Run.{value};
 ghost use Rattle.model.specs.Reply.{emit_bytes};

@@ -1,4 +1,6 @@
 // Lookups: a stored entry as its record, the features epoch, the log offset, the number of short partitions, the freeze of a name, a rate.
+#![tactic(auto)]
+
 ghost use Rattle.std.specs.Prelude.{◌≡◌, true, ◌≤◌, length};
 ghost use Rattle.model.specs.Map.{get};
 ghost use Rattle.model.specs.Contents.{key};

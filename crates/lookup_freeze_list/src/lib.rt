@@ -1,5 +1,7 @@
 // The freezes of a list of names in one pass over the stored ones. The output is the only memory: of each name the index of the last freeze that
 // fits it, first among the prefixes and then among the literal scopes. Scopes ascend, so that the last prefix that fits is the longest.
+#![tactic(auto)]
+
 ghost use Rattle.std.specs.Prelude.{◌≡◌, [], ◌++◌, ◌*◌, ◌≤◌, length, drop};
 ghost use Rattle.std.proofs.Math.Option.{some};
 ghost use Rattle.model.specs.Choice.{joined};

@@ -1,4 +1,6 @@
 // The freeze of a name: of its literal scope, else of its longest stored prefix.
+#![tactic(auto)]
+
 ghost use Rattle.std.specs.Prelude.{◌≡◌, [], ◌≤◌, length};
 ghost use Rattle.model.specs.Choice.{or_else};
 ghost use Rattle.model.specs.Snapshot.{emit};

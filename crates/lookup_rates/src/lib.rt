@@ -1,4 +1,6 @@
 // Rates: a config's value read as Rust reads an i64, where it is not negative.
+#![tactic(auto)]
+
 ghost use Rattle.std.specs.Prelude.{◌≡◌, ◌≤◌, length};
 ghost use Rattle.lookup_rates.specs.Rates.{DigitsAre, MagnitudeIs, rate_in, rated, less_rate};
 

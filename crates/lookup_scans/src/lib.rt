@@ -1,4 +1,6 @@
 // Walks over an image's real entries, for lookups: the short partitions, and the topic that the id index names for an id.
+#![tactic(auto)]
+
 ghost use Rattle.std.specs.Prelude.{◌≡◌, map};
 ghost use Rattle.model.specs.Image.{entry_of};
 ghost use Rattle.model.specs.Snapshot.{emit};

@@ -1,4 +1,6 @@
 // The rate of a node: what a config of it says, else what the default node's says.
+#![tactic(auto)]
+
 ghost use Rattle.std.specs.Prelude.{◌≡◌, ◌≤◌, length};
 ghost use Rattle.model.specs.Lookup.{default_node, config_at, throttle};
 ghost use Rattle.fields.specs.Fields.{held, Within};

@@ -1,4 +1,6 @@
 // The plain types and numbers that the operations share. What they mean stands in `specs/`.
+#![tactic(auto)]
+
 pub mod answers;
 pub mod kinds;
 pub mod refusals;

@@ -1,4 +1,6 @@
 // Indexes beside the names of a list, two bytes to a name: those of the names that a scope fits, from the first name that is not below it.
+#![tactic(auto)]
+
 ghost use Rattle.std.specs.Prelude.{◌≡◌, ◌++◌, ◌*◌, ◌≤◌, length, drop, replicate};
 ghost use Rattle.model.specs.Order.{compare_bytes, is_below};
 ghost use Rattle.name_marks.specs.Marks.{fits_name, marked, Accepted, jobs, Behind, Reached};

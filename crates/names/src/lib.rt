@@ -1,4 +1,6 @@
 // Lists of names, each as a two-byte length and its bytes: the name at a place, and the checks of a whole list.
+#![tactic(auto)]
+
 ghost use Rattle.std.specs.Prelude.{◌≡◌, ◌<◌, length};
 ghost use Rattle.std.proofs.Math.Option.{some};
 ghost use Rattle.model.specs.Names.{name_fault};

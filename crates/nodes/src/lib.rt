@@ -1,4 +1,6 @@
 // Lists of nodes, eight bytes each, by their numbers.
+#![tactic(auto)]
+
 ghost use Rattle.std.specs.Prelude.{◌≡◌, ◌+◌, ◌/◌, ◌≤◌, ◌<◌, length, take, drop, get_or};
 ghost use Rattle.model.specs.Nodes.{nodes_from, nodes_of, is_among, no_repeats, outside as outside_of};
 

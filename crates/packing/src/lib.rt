@@ -1,4 +1,6 @@
 // An answer in one number: 01's number in the upper half of a word, and the value that comes with it in the lower half.
+#![tactic(auto)]
+
 pub mod kinds;
 
 ghost use Rattle.std.specs.Prelude.{[], ◌∷◌, ◌≡◌, ◌*◌};

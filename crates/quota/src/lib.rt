@@ -1,4 +1,6 @@
 // A quota's value: a double that keeps its bits.
+#![tactic(auto)]
+
 ghost use Rattle.std.specs.Prelude.{◌≡◌};
 ghost use Rattle.std.specs.Float.Ieee.{nan_bits};
 ghost use Rattle.std.specs.Float.{binary64};

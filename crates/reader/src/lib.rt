@@ -1,6 +1,8 @@
 // A reader over a record's bytes and an offset. It holds a slice, so each function over it is thin: it takes the reader apart and leaves the
 // work to a function on the slice and the number. `find`, `field` and `first` have plain parameters and serve callers that hold no reader: every
 // operation reads its records' fields by tag through them.
+#![tactic(auto)]
+
 ghost use Rattle.std.specs.Prelude.{◌≡◌, ◌-◌, length, drop};
 ghost use Rattle.model.specs.Run.{run_of, field as field_of};
 ghost use Rattle.fields.specs.Fields.{fields_from, Inside, place_of, held, Within};

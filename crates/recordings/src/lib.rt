@@ -1,4 +1,6 @@
 // Where two controllers' recordings part: both runs are applied side by side, each to its own image.
+#![tactic(auto)]
+
 ghost use Rattle.std.specs.Prelude.{◌≡◌, true, length};
 ghost use Rattle.model.specs.Image.{contents_of};
 ghost use Rattle.model.specs.Recordings.{same_snapshots, parting_of, compared_as, compare_of};

@@ -1,4 +1,6 @@
 // Records: Read and Write.
+#![tactic(auto)]
+
 ghost use Rattle.std.specs.Prelude.{◌≡◌, true, ◌++◌, ◌+◌, ◌<◌, ◌≤◌, length};
 ghost use Rattle.model.specs.Kind.{kind_number};
 ghost use Rattle.model.specs.Run.{bytes_of};

@@ -1,4 +1,6 @@
 // Restore: the image of some records, from nothing. The first one is the log offset.
+#![tactic(auto)]
+
 ghost use Rattle.std.specs.Prelude.{◌≡◌, true, ◌≤◌, length};
 ghost use Rattle.model.specs.Image.{is_capacity, image_of};
 ghost use Rattle.model.specs.Snapshot.{restore_of};

@@ -1,4 +1,6 @@
 // Restore of a snapshot by copying: most snapshots are of images that a restore leaves as they are.
+#![tactic(auto)]
+
 mod copies;
 
 ghost use Rattle.std.specs.Prelude.{◌≡◌, true, ◌≤◌, length};

@@ -1,5 +1,7 @@
 // Whether a restore leaves entries as they are: each topic's id names it, and its count and replication factor are those of its partitions. One walk over
 // the topics, and one beside it over the partitions.
+#![tactic(auto)]
+
 ghost use Rattle.std.specs.Prelude.{◌≡◌, true, ◌&&◌, ◌≤◌, eqb, length};
 ghost use Rattle.model.specs.Choice.{every};
 ghost use Rattle.model.specs.Number.{number};

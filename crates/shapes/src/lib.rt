@@ -1,4 +1,6 @@
 // The table of shapes, one field to a line, and its rows by kind and tag. It is the packed form of the rows in `model`, by computation.
+#![tactic(auto)]
+
 ghost use Rattle.std.specs.Prelude.{◌≡◌, ◌<◌, get_or};
 ghost use Rattle.model.specs.Shape.{logged, stored, framed};
 ghost use Rattle.shapes.specs.Table.{table, row_count, kind_base, form_in, size_in, prior_in, many_in};

@@ -1,4 +1,6 @@
 // All short histories of a few records: a number gives the bytes of its history. Shorter ones come first, then by the positions, leftmost first.
+#![tactic(auto)]
+
 ghost use Rattle.std.specs.Prelude.{◌≡◌, ◌+◌, ◌^◌, ◌≤◌, ◌<◌, length};
 ghost use Rattle.model.specs.Reply.{emit_bytes};
 ghost use Rattle.model.specs.ShortHistory.{positions, history_bytes, history_of};

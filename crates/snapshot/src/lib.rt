@@ -1,4 +1,6 @@
 // Snapshot: what an image holds, as records: the log offset, and the entries in the order of their keys.
+#![tactic(auto)]
+
 ghost use Rattle.std.specs.Prelude.{◌≡◌, true, ◌++◌, ◌+◌, ◌≤◌, ltb, length, take};
 ghost use Rattle.model.specs.Choice.{joined};
 ghost use Rattle.model.specs.Record.{record_bytes};

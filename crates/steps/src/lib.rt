@@ -1,4 +1,6 @@
 // The steps of a history that move an image, as the theorem has them: a record that is given, and a cut.
+#![tactic(auto)]
+
 ghost use Rattle.std.specs.Prelude.{◌≡◌, eqb};
 ghost use Rattle.model.specs.History.{judged, image_after, cut_image};
 ghost use Rattle.model.specs.Snapshot.{snapshot_of};

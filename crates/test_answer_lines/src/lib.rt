@@ -1,4 +1,6 @@
 // What an operation answers, as a line of text: numbers with a space before each, behind the operation's place.
+#![tactic(auto)]
+
 ghost use Rattle.std.specs.Prelude.{◌≡◌};
 ghost use Rattle.test_answer_lines.specs.Digest.{digest_of};
 

@@ -1,6 +1,8 @@
 // The freezes of lists of names, one list to a line in hexadecimal: IMAGE(1) ROOM(2) LENGTH(2) RUN LIST, where RUN is restored, IMAGE is 0 where the
 // buffer is then made no image, and ROOM is how many bytes the output has. A line is answered by its number; where that is 0, then by how many
 // bytes were written, by the freezes read, and by these bytes.
+#![tactic(auto)]
+
 use model::answers::Counted;
 use test_hex_lines::print_bytes;
 use wire::{get16, wide};

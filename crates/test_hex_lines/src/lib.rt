@@ -1,5 +1,7 @@
 // Standard input, line by line in hexadecimal, and bytes on standard output. Lines that have a '#' are passed over, and so is what is no digit of 0 to 9
 // and a to f.
+#![tactic(auto)]
+
 ghost use Rattle.std.specs.Prelude.{◌≡◌, false, ◌+◌, ◌*◌, ◌%◌, ◌≤◌, length};
 ghost use Rattle.test_hex_lines.specs.Line.{digit_of, held_in, after_digit, after_byte};
 

@@ -11,6 +11,8 @@
 //     07 IMAGE                                 how many partitions are short
 //     08 CAPACITY(3) BYTES                     the exact test of a buffer of BYTES and zeros after them
 //     09 IMAGE                                 the log offset, as an unsigned number of its bits
+#![tactic(auto)]
+
 mod lookups;
 mod print;
 

@@ -1,6 +1,8 @@
 // Kafka's record bytes, one to a line in hexadecimal: WAY(1) ROOM(2) BYTES, where WAY is 0 to read Kafka's and 1 to write them, and ROOM is how many
 // bytes the output has. A line is answered by its number; where that is 0, then by how many bytes were written, for reading how many were used, and
 // the bytes written.
+#![tactic(auto)]
+
 use model::answers::{Answer, Counted};
 use test_hex_lines::print_bytes;
 use wire::{get16, wide};

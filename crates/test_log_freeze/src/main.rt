@@ -1,5 +1,7 @@
 // The freeze of a name from runs of records, one to a line in hexadecimal: ROOM(2) LENGTH(2) NAME RUN, where ROOM is how many bytes the output has. A
 // line is answered by its number; where that is 0, then by how many bytes were written and these; where a record is refused, by its place.
+#![tactic(auto)]
+
 use model::answers::RunAnswer;
 use test_hex_lines::print_bytes;
 use wire::{get16, wide};

@@ -1,5 +1,7 @@
 // Reads records, one to a line in hexadecimal, and writes Read's number for each, and the bytes used where it is 0. Lines that have a '#' are
 // passed over.
+#![tactic(auto)]
+
 use model::answers::Answer;
 
 fn print_answer(bytes: &[u8]) {

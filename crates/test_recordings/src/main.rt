@@ -1,6 +1,8 @@
 // Where pairs of recordings part, one pair to a line in hexadecimal: FIRST(4) SECOND(4) LENGTH(2) ONE OTHER, where FIRST and SECOND are the capacities
 // and LENGTH is how many bytes the first run has. A line is answered by its number; where that is 0, then by 1 where the runs part and 0 where they agree,
 // by the count, and by the used bytes of both images.
+#![tactic(auto)]
+
 use model::answers::Compared;
 use test_hex_lines::print_bytes;
 use wire::{get16, wide};

@@ -15,6 +15,8 @@
 // A line of the output has the place of its operation, from 1, and then: the numbers that it says (Validate's and Apply's; Snapshot's and Restore's;
 // a refused Restore's with its place); after Open, Apply and Restore the used length and a digest of the whole buffer; of what writes records how
 // many bytes and their digest; of a throttle the rate where there is one; the log offset as an unsigned number of its bits.
+#![tactic(auto)]
+
 mod history;
 mod questions;
 

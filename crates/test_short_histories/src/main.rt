@@ -1,5 +1,7 @@
 // Short histories, one to a line in hexadecimal: ROOM(2) NUMBER(8) RECORDS, where ROOM is how many bytes the output has. A line is answered by its
 // number; where that is 0, then by how many bytes were written and these.
+#![tactic(auto)]
+
 use model::answers::Answer;
 use test_hex_lines::print_bytes;
 use wire::{get, get16, wide};

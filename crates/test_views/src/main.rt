@@ -8,6 +8,8 @@
 //
 // ROOM is how many bytes the output has. A line of the output has the place of its operation, from 1, and then, but for Restore, the number that it
 // says and, where that is 0, how many bytes it wrote and their digest.
+#![tactic(auto)]
+
 use model::answers::Answer;
 use test_answer_lines::{end_line, print_first, print_no_line, print_written};
 use wire::{get, get16};

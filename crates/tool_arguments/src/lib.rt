@@ -1,4 +1,6 @@
 // The arguments: a file, `cut N` or `cut all`, `at CAPACITY`, in any order, or `help`.
+#![tactic(auto)]
+
 ghost use Rattle.std.specs.Prelude.{◌≤◌, length};
 
 use lookup_rates::{Rate, rate_of};

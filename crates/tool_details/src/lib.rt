@@ -1,4 +1,6 @@
 // What a record of a snapshot says of its subject, kind by kind.
+#![tactic(auto)]
+
 mod lists;
 mod quotas;
 

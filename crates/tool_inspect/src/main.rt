@@ -3,6 +3,7 @@
 //
 //     inspect [FILE] [cut N | cut all] [at CAPACITY]
 //     inspect help
+#![tactic(auto)]
 
 use libc::STDIN_FILENO;
 use tool_arguments::{Cuts, NOTHING_WRONG, Options, read_options, say_fault};

@@ -1,4 +1,6 @@
 // A plan of a snapshot: which of its sheets exist, and each of its partitions.
+#![tactic(auto)]
+
 use access::{Epoch, Node, leader_epoch, node_id};
 use keys::value_at;
 use model::kinds::PARTITION;

@@ -1,2 +1,4 @@
 // What the tool's report says to exist in an image.
+#![tactic(auto)]
+
 pub mod exists;

@@ -1,4 +1,6 @@
 // A file's bytes through a window: a record is never longer than the window is.
+#![tactic(auto)]
+
 ghost use Rattle.std.specs.Prelude.{◌≡◌, ◌+◌, ◌≤◌, length};
 
 use libc::STDERR_FILENO;

@@ -1,4 +1,6 @@
 // What a record is about, in the words of those who use it: a plan, a partition of it by number and by its sheet, a broker, a scope.
+#![tactic(auto)]
+
 pub mod entities;
 pub mod sheets;
 

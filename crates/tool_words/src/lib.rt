@@ -1,6 +1,8 @@
 // Words and numbers on standard output, kinds and verdicts in words, and what went wrong on standard error.
 //
 // What says something answers whether it was written. Where it was not, standard error has why, and whoever asked says no more.
+#![tactic(auto)]
+
 pub mod names;
 pub mod parts;
 

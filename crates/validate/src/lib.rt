@@ -1,4 +1,6 @@
 // Validate: what stands against a record. It changes nothing.
+#![tactic(auto)]
+
 ghost use Rattle.std.specs.Prelude.{◌≡◌};
 ghost use Rattle.model.specs.Validate.{validate_of};
 ghost use Rattle.model.specs.Answers.{number_reply};

@@ -1,4 +1,6 @@
 // Kafka's unsigned varints: seven bits in a byte, the lowest first. A byte from 128 on is followed by another; the fifth is the last.
+#![tactic(auto)]
+
 ghost use Rattle.std.specs.Prelude.{◌≡◌, ◌++◌, ◌+◌, ◌<◌, ◌≤◌, length, take, drop};
 ghost use Rattle.model.specs.Kafka.{varint};
 ghost use Rattle.varints.specs.Varints.{VarintAs, LastAs};

@@ -1,5 +1,7 @@
 // A viewer's snapshot: the records under visible names, in the order of their keys. The first walk measures them, the second places each behind the
 // earlier ones.
+#![tactic(auto)]
+
 ghost use Rattle.std.specs.Prelude.{◌≡◌, true, ◌+◌, ◌*◌, ◌≤◌, length};
 ghost use Rattle.model.specs.Image.{is_image, contents_of};
 ghost use Rattle.model.specs.Snapshot.{emit};

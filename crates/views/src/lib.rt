@@ -1,5 +1,7 @@
 // A viewer's lookups: of a topic, a partition and a freeze, by a name that begins with one of its prefixes. A viewer has up to 8 prefixes, in any
 // order; each is a two-byte length and its bytes.
+#![tactic(auto)]
+
 ghost use Rattle.std.specs.Prelude.{◌≡◌};
 ghost use Rattle.model.specs.Answers.{replied};
 ghost use Rattle.model.specs.View.{prefixes_in, prefix_fault, visible, is_seen, viewer_fault, query_fault, view_topic_of, view_partition_of, view_freeze_of};

@@ -1,5 +1,7 @@
 // Bytes: numbers in big-endian, comparing, moving and clearing, and the UTF-8 test. What callers must see to stands in each `requires`; the
 // operations above ask nothing of theirs.
+#![tactic(auto)]
+
 mod text;
 
 ghost use Rattle.std.specs.Prelude.{◌≡◌, ◌++◌, ◌+◌, ◌<◌, ◌≤◌, length, take, drop, replicate, eqb};

@@ -10,8 +10,8 @@ returns-then-tag-eq0 c = node_none _ _ c.node_tag-tag.ensures c.if-tag-eq0.true
 
 pub returns-in-Is : goal.returns-in-Is
 returns-in-Is c =
-            node_is _ _ c.node_tag-tag.ensures c.if-tag-eq0.false c.field_number.ensures.0 c.in-Is.is
+    node_is _ _ c.node_tag-tag.ensures c.if-tag-eq0.false c.field_number.ensures.0 c.in-Is.is
 
 pub returns-in-Missing : goal.returns-in-Missing
 returns-in-Missing c =
-            node_missing _ _ c.node_tag-tag.ensures c.if-tag-eq0.false c.field_number.ensures.0 c.in-Missing.is
+    node_missing _ _ c.node_tag-tag.ensures c.if-tag-eq0.false c.field_number.ensures.0 c.in-Missing.is

@@ -13,16 +13,15 @@ returns-then-not-is_image c =
 
 pub slice_bounds-apply_later-end : goal.slice_bounds-apply_later-end
 slice_bounds-apply_later-end c =
-                    record-length c.args.input.now (known_bytes c.args.input.now (λ i. omega (arith, c.type_inv.input i)))
+    record-length c.args.input.now (known_bytes c.args.input.now (λ i. omega (arith, c.type_inv.input i)))
     (ap replied (sym c.in-Used.is) ∙ c.read_logged.ensures)
 
 pub apply_later-requires : goal.apply_later-requires
-apply_later-requires c =
-                        (
-      image_is _ c.args.offset c.args.input.now c.is_image.ensures c.if-not-is_image.false-raw,
-      record-logged c.args.input.now (known_bytes c.args.input.now (λ i. omega (arith, c.type_inv.input i)))
-          (ap replied (sym c.in-Used.is) ∙ c.read_logged.ensures),
-    )
+apply_later-requires c = (
+  image_is _ c.args.offset c.args.input.now c.is_image.ensures c.if-not-is_image.false-raw,
+  record-logged c.args.input.now (known_bytes c.args.input.now (λ i. omega (arith, c.type_inv.input i)))
+      (ap replied (sym c.in-Used.is) ∙ c.read_logged.ensures),
+)
 
 pub returns-in-Refused : goal.returns-in-Refused
 returns-in-Refused c =

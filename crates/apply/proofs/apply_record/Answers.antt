@@ -8,11 +8,11 @@ use Rattle.apply.proofs.apply_record.Goals as goal
 
 pub try_in-requires : goal.try_in-requires
 try_in-requires c =
-        (c.requires.0, c.requires.1, refl, omega arith, omega arith)
+    (c.requires.0, c.requires.1, refl, omega arith, omega arith)
 
 pub lay-requires : goal.lay-requires
 lay-requires c =
-                let h = subst (StillHolding c.try_in.new.w (length c.args.image.now)) c.in-Moved.is c.try_in.ensures.1 in (h.good, h.fits)
+    let h = subst (StillHolding c.try_in.new.w (length c.args.image.now)) c.in-Moved.is c.try_in.ensures.1 in (h.good, h.fits)
 
 pub returns-in-Refused : goal.returns-in-Refused
 returns-in-Refused c =

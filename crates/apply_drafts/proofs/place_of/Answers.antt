@@ -42,7 +42,7 @@ loop-t-preserved c =
 
 pub returns-in-Torn : goal.returns-in-Torn
 returns-in-Torn c =
-        absurd (not_torn _ _ _ c.loop-t.invariant (tore _ c.next.ensures.0 c.in-Torn.is))
+    absurd (not_torn _ _ _ c.loop-t.invariant (tore _ c.next.ensures.0 c.in-Torn.is))
 
 pub returns-in-End : goal.returns-in-End
 returns-in-End c =

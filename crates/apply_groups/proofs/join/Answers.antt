@@ -14,7 +14,7 @@ use Rattle.apply_groups.proofs.join.Goals as goal
 
 pub slice_bounds-drop_group-end-2 : goal.slice_bounds-drop_group-end-2
 slice_bounds-drop_group-end-2 c =
-            sym (length-take-le _ c.group_record-n.new.b (omega (arith, c.group_record-n.ensures.1, c.group_record-n.auto.b, c.requires.4)))
+    sym (length-take-le _ c.group_record-n.new.b (omega (arith, c.group_record-n.ensures.1, c.group_record-n.auto.b, c.requires.4)))
 
 pub drop_group-left-requires : goal.drop_group-left-requires
 drop_group-left-requires c =
@@ -23,13 +23,12 @@ drop_group-left-requires c =
     (c.requires.0, is_keyed _ group-record)
 
 pub put_real-requires : goal.put_real-requires
-put_real-requires c =
-        (
-      c.drop_group-left.ensures.0,
-      c.requires.1,
-      member_kept _ c.requires.2,
-      omega (arith, record-size _ c.requires.1, c.drop_group-left.ensures.3, c.drop_group-left.auto.w, c.requires.3),
-    )
+put_real-requires c = (
+  c.drop_group-left.ensures.0,
+  c.requires.1,
+  member_kept _ c.requires.2,
+  omega (arith, record-size _ c.requires.1, c.drop_group-left.ensures.3, c.drop_group-left.auto.w, c.requires.3),
+)
 
 pub returns : goal.returns
 returns c =

@@ -15,11 +15,11 @@ use Rattle.apply_groups.proofs.leave.Goals as goal
 
 pub drop_real-left-requires : goal.drop_real-left-requires
 drop_real-left-requires c =
-        (c.requires.0, is_keyed _ c.requires.1)
+    (c.requires.0, is_keyed _ c.requires.1)
 
 pub slice_bounds-is_apart-end-2 : goal.slice_bounds-is_apart-end-2
 slice_bounds-is_apart-end-2 c =
-        let good = c.drop_real-left.ensures.0 in
+    let good = c.drop_real-left.ensures.0 in
     sym (length-take-le _ c.drop_real-left.new.w (omega (arith, good.order, good.fits)))
 
 pub slice_bounds-is_apart-end-4 : goal.slice_bounds-is_apart-end-4
@@ -31,8 +31,7 @@ slice_bounds-is_apart-end-4 c =
 pub is_apart-requires : goal.is_apart-requires
 is_apart-requires c =
     let bytes_in : AreBytes c.args.rec.now = known_bytes c.args.rec.now (λ i. omega (arith, c.type_inv.rec i)) in
-    let group-record : IsRecord (take c.group_record-n.result c.group_record-n.new.b) = group_is c.args.rec.now _ bytes_in c.requires.1 c.requires.2 c.group_record-n.ensures.0 in
-    (
+    let group-record : IsRecord (take c.group_record-n.result c.group_record-n.new.b) = group_is c.args.rec.now _ bytes_in c.requires.1 c.requires.2 c.group_record-n.ensures.0 in (
       c.drop_real-left.ensures.0.reals,
       group-record,
       group_told c.args.rec.now _ bytes_in c.requires.1 c.requires.2 c.group_record-n.ensures.0 c.requires.3,
@@ -49,8 +48,7 @@ put_group-requires c =
     let bytes_in : AreBytes c.args.rec.now = known_bytes c.args.rec.now (λ i. omega (arith, c.type_inv.rec i)) in
     let within : c.group_record-n.result ≤ length c.group_record-n.new.b = omega (arith, c.group_record-n.ensures.1, c.group_record-n.auto.b, c.requires.5) in
     let group-long : c.group_record-n.result ≡ length (take c.group_record-n.result c.group_record-n.new.b) = sym (length-take-le _ c.group_record-n.new.b within) in
-    let group-record : IsRecord (take c.group_record-n.result c.group_record-n.new.b) = group_is c.args.rec.now _ bytes_in c.requires.1 c.requires.2 c.group_record-n.ensures.0 in
-    (
+    let group-record : IsRecord (take c.group_record-n.result c.group_record-n.new.b) = group_is c.args.rec.now _ bytes_in c.requires.1 c.requires.2 c.group_record-n.ensures.0 in (
       c.drop_real-left.ensures.0,
       group-record,
       omega (arith, group-long, c.group_record-n.ensures.1, record-size _ c.requires.1, c.drop_real-left.ensures.3, c.drop_real-left.auto.w, c.requires.4),

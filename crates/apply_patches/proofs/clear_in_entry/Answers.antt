@@ -20,7 +20,7 @@ put-requires c =
 
 pub returns-then-is_topic_with : goal.returns-then-is_topic_with
 returns-then-is_topic_with c =
-        clear_named-put c.requires _ c.is_topic_with.ensures c.if-is_topic_with.true c.put.ensures
+    clear_named-put c.requires _ c.is_topic_with.ensures c.if-is_topic_with.true c.put.ensures
 
 pub returns-else-is_topic_with : goal.returns-else-is_topic_with
 returns-else-is_topic_with c = clear_named_stays c.requires _ c.is_topic_with.ensures c.if-is_topic_with.false

@@ -43,7 +43,7 @@ put-requires-then-is_topic_with c =
 
 pub returns-then-is_topic_with : goal.returns-then-is_topic_with
 returns-then-is_topic_with c =
-                count_partition-put c.requires.0 _ _ _ c.is_topic_with.ensures c.if-is_topic_with.true c.get-count.ensures.0 c.put.ensures
+    count_partition-put c.requires.0 _ _ _ c.is_topic_with.ensures c.if-is_topic_with.true c.get-count.ensures.0 c.put.ensures
     c.put-then-is_topic_with.ensures
 
 pub returns-else-is_topic_with : goal.returns-else-is_topic_with

@@ -13,7 +13,7 @@ use Rattle.apply_patches.proofs.count_partition.Goals as goal
 
 pub loop-start-init : goal.loop-start-init
 loop-start-init c =
-        let are = known_bytes c.args.w.now (λ i. omega (arith, c.type_inv.w i)) in
+    let are = known_bytes c.args.w.now (λ i. omega (arith, c.type_inv.w i)) in
     walked_start _ _ _ _ are c.requires.0.reals (all-counted are c.requires.0 c.requires.3)
 
 pub slice_bounds-next-end : goal.slice_bounds-next-end
@@ -30,7 +30,7 @@ pub slice_bounds-count_in_entry-count : goal.slice_bounds-count_in_entry-count
 slice_bounds-count_in_entry-count c =
     let within : c.args.bounds.mid ≤ length c.args.w.now = omega (arith, c.requires.0.order, c.requires.0.fits) in
     let suits : (let a = c.args in Suits (count_partition a.name.now a.new a.replicas) (λ r. Sound r × CountFits (entry_of r))) = count_partition_suits _ _ _ c.requires.1 c.requires.2 in
-    let entry : ( Stands (take c.args.bounds.mid c.loop-start.w) c.loop-start.c.at c.in-Entry.start c.in-Entry.end c.in-Entry.next) = stands _ (walked_bytes within c.loop-start.invariant) _ c.loop-start.invariant.entries c.next.ensures c.in-Entry.is in
+    let entry : (Stands (take c.args.bounds.mid c.loop-start.w) c.loop-start.c.at c.in-Entry.start c.in-Entry.end c.in-Entry.next) = stands _ (walked_bytes within c.loop-start.invariant) _ c.loop-start.invariant.entries c.next.ensures c.in-Entry.is in
     let place : (c.in-Entry.start ≤ c.in-Entry.end) × (c.in-Entry.end ≤ length c.loop-start.w) = place-within suits within c.loop-start.invariant entry in
     place.0
 
@@ -38,7 +38,7 @@ pub slice_bounds-count_in_entry-start : goal.slice_bounds-count_in_entry-start
 slice_bounds-count_in_entry-start c =
     let within : c.args.bounds.mid ≤ length c.args.w.now = omega (arith, c.requires.0.order, c.requires.0.fits) in
     let suits : (let a = c.args in Suits (count_partition a.name.now a.new a.replicas) (λ r. Sound r × CountFits (entry_of r))) = count_partition_suits _ _ _ c.requires.1 c.requires.2 in
-    let entry : ( Stands (take c.args.bounds.mid c.loop-start.w) c.loop-start.c.at c.in-Entry.start c.in-Entry.end c.in-Entry.next) = stands _ (walked_bytes within c.loop-start.invariant) _ c.loop-start.invariant.entries c.next.ensures c.in-Entry.is in
+    let entry : (Stands (take c.args.bounds.mid c.loop-start.w) c.loop-start.c.at c.in-Entry.start c.in-Entry.end c.in-Entry.next) = stands _ (walked_bytes within c.loop-start.invariant) _ c.loop-start.invariant.entries c.next.ensures c.in-Entry.is in
     let place : (c.in-Entry.start ≤ c.in-Entry.end) × (c.in-Entry.end ≤ length c.loop-start.w) = place-within suits within c.loop-start.invariant entry in
     omega (arith, place)
 
@@ -46,7 +46,7 @@ pub slice_bounds-count_in_entry-end : goal.slice_bounds-count_in_entry-end
 slice_bounds-count_in_entry-end c =
     let within : c.args.bounds.mid ≤ length c.args.w.now = omega (arith, c.requires.0.order, c.requires.0.fits) in
     let suits : (let a = c.args in Suits (count_partition a.name.now a.new a.replicas) (λ r. Sound r × CountFits (entry_of r))) = count_partition_suits _ _ _ c.requires.1 c.requires.2 in
-    let entry : ( Stands (take c.args.bounds.mid c.loop-start.w) c.loop-start.c.at c.in-Entry.start c.in-Entry.end c.in-Entry.next) = stands _ (walked_bytes within c.loop-start.invariant) _ c.loop-start.invariant.entries c.next.ensures c.in-Entry.is in
+    let entry : (Stands (take c.args.bounds.mid c.loop-start.w) c.loop-start.c.at c.in-Entry.start c.in-Entry.end c.in-Entry.next) = stands _ (walked_bytes within c.loop-start.invariant) _ c.loop-start.invariant.entries c.next.ensures c.in-Entry.is in
     let place : (c.in-Entry.start ≤ c.in-Entry.end) × (c.in-Entry.end ≤ length c.loop-start.w) = place-within suits within c.loop-start.invariant entry in
     omega (arith, place)
 
@@ -54,21 +54,21 @@ pub count_in_entry-requires : goal.count_in_entry-requires
 count_in_entry-requires c =
     let within : c.args.bounds.mid ≤ length c.args.w.now = omega (arith, c.requires.0.order, c.requires.0.fits) in
     let suits : (let a = c.args in Suits (count_partition a.name.now a.new a.replicas) (λ r. Sound r × CountFits (entry_of r))) = count_partition_suits _ _ _ c.requires.1 c.requires.2 in
-    let entry : ( Stands (take c.args.bounds.mid c.loop-start.w) c.loop-start.c.at c.in-Entry.start c.in-Entry.end c.in-Entry.next) = stands _ (walked_bytes within c.loop-start.invariant) _ c.loop-start.invariant.entries c.next.ensures c.in-Entry.is in
+    let entry : (Stands (take c.args.bounds.mid c.loop-start.w) c.loop-start.c.at c.in-Entry.start c.in-Entry.end c.in-Entry.next) = stands _ (walked_bytes within c.loop-start.invariant) _ c.loop-start.invariant.entries c.next.ensures c.in-Entry.is in
     (here-stands suits within c.loop-start.invariant entry, c.requires.1)
 
 pub loop-start-smaller : goal.loop-start-smaller
 loop-start-smaller c =
     let within : c.args.bounds.mid ≤ length c.args.w.now = omega (arith, c.requires.0.order, c.requires.0.fits) in
     let suits : (let a = c.args in Suits (count_partition a.name.now a.new a.replicas) (λ r. Sound r × CountFits (entry_of r))) = count_partition_suits _ _ _ c.requires.1 c.requires.2 in
-    let entry : ( Stands (take c.args.bounds.mid c.loop-start.w) c.loop-start.c.at c.in-Entry.start c.in-Entry.end c.in-Entry.next) = stands _ (walked_bytes within c.loop-start.invariant) _ c.loop-start.invariant.entries c.next.ensures c.in-Entry.is in
+    let entry : (Stands (take c.args.bounds.mid c.loop-start.w) c.loop-start.c.at c.in-Entry.start c.in-Entry.end c.in-Entry.next) = stands _ (walked_bytes within c.loop-start.invariant) _ c.loop-start.invariant.entries c.next.ensures c.in-Entry.is in
     falls suits within c.loop-start.invariant entry
 
 pub loop-start-preserved : goal.loop-start-preserved
 loop-start-preserved c =
     let within : c.args.bounds.mid ≤ length c.args.w.now = omega (arith, c.requires.0.order, c.requires.0.fits) in
     let suits : (let a = c.args in Suits (count_partition a.name.now a.new a.replicas) (λ r. Sound r × CountFits (entry_of r))) = count_partition_suits _ _ _ c.requires.1 c.requires.2 in
-    let entry : ( Stands (take c.args.bounds.mid c.loop-start.w) c.loop-start.c.at c.in-Entry.start c.in-Entry.end c.in-Entry.next) = stands _ (walked_bytes within c.loop-start.invariant) _ c.loop-start.invariant.entries c.next.ensures c.in-Entry.is in
+    let entry : (Stands (take c.args.bounds.mid c.loop-start.w) c.loop-start.c.at c.in-Entry.start c.in-Entry.end c.in-Entry.next) = stands _ (walked_bytes within c.loop-start.invariant) _ c.loop-start.invariant.entries c.next.ensures c.in-Entry.is in
     turned suits within c.loop-start.invariant entry c.count_in_entry.ensures
     (λ i. omega (arith, c.type_inv.w i))
 

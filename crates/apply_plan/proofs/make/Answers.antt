@@ -22,7 +22,7 @@ bounds-rec-0 c = omega (arith, headed _ c.requires.0.logged)
 pub put_partition-requires : goal.put_partition-requires
 unfolding kind_number
 put_partition-requires c =
-        let ready = c.requires in (
+    let ready = c.requires in (
       ready.0.good,
       logged_is _ ready.0.logged Partition c.in-2.is (λ e. impossible cc),
       record-kind _ ready.0.logged Partition c.in-2.is (λ e. impossible cc),
@@ -66,7 +66,7 @@ member-requires c =
 pub quota-requires : goal.quota-requires
 unfolding kind_number
 quota-requires c =
-            let ready = c.requires in (
+    let ready = c.requires in (
       ready.0.good,
       logged_is _ ready.0.logged ClientQuota c.in-7.is (λ e. impossible cc),
       record-kind _ ready.0.logged ClientQuota c.in-7.is (λ e. impossible cc),
@@ -78,7 +78,7 @@ quota-requires c =
 pub producers-requires : goal.producers-requires
 unfolding kind_number
 producers-requires c =
-        let ready = c.requires in (
+    let ready = c.requires in (
       ready.0.good,
       logged_is _ ready.0.logged ProducerIds c.in-8.is (λ e. impossible cc),
       record-kind _ ready.0.logged ProducerIds c.in-8.is (λ e. impossible cc),
@@ -89,7 +89,7 @@ producers-requires c =
 pub unregister-requires : goal.unregister-requires
 unfolding kind_number
 unregister-requires c =
-        let ready = c.requires in (
+    let ready = c.requires in (
       ready.0.good,
       logged_is _ ready.0.logged UnregisterBroker c.in-9.is (λ e. impossible cc),
       record-kind _ ready.0.logged UnregisterBroker c.in-9.is (λ e. impossible cc),
@@ -124,7 +124,7 @@ with_epoch-requires c =
 pub assign-requires : goal.assign-requires
 unfolding kind_number
 assign-requires c =
-            let ready = c.requires in (
+    let ready = c.requires in (
       ready.0.good,
       logged_is _ ready.0.logged PartitionDirAssignment c.in-14.is (λ e. impossible cc),
       record-kind _ ready.0.logged PartitionDirAssignment c.in-14.is (λ e. impossible cc),
@@ -136,7 +136,7 @@ assign-requires c =
 pub add_offset-requires : goal.add_offset-requires
 unfolding kind_number
 add_offset-requires c =
-            let ready = c.requires in (
+    let ready = c.requires in (
       ready.0.good,
       logged_is _ ready.0.logged PartitionOffsetAdvance c.in-15.is (λ e. impossible cc),
       record-kind _ ready.0.logged PartitionOffsetAdvance c.in-15.is (λ e. impossible cc),
@@ -195,7 +195,7 @@ set-requires-in-22 c =
 pub update-requires : goal.update-requires
 unfolding kind_number
 update-requires c =
-            let ready = c.requires in (
+    let ready = c.requires in (
       ready.0.good,
       logged_is _ ready.0.logged PartitionUpdate c.in-23.is (λ e. impossible cc),
       record-kind _ ready.0.logged PartitionUpdate c.in-23.is (λ e. impossible cc),
@@ -207,7 +207,7 @@ update-requires c =
 pub change_broker-requires : goal.change_broker-requires
 unfolding kind_number
 change_broker-requires c =
-            let ready = c.requires in (
+    let ready = c.requires in (
       ready.0.good,
       logged_is _ ready.0.logged BrokerRegistrationChange c.in-24.is (λ e. impossible cc),
       record-kind _ ready.0.logged BrokerRegistrationChange c.in-24.is (λ e. impossible cc),
@@ -230,7 +230,7 @@ erase_node-requires c =
 pub returns-in-1 : goal.returns-in-1
 unfolding kind_number
 returns-in-1 c =
-        let ready = c.requires.0 in
+    let ready = c.requires.0 in
     let is = c.in-1.is in
     let made = topic_made _ ready.logged is c.put_topic.ensures in
     planned_bounds c.args.rec.now ready.logged c.args.w.now _ c.args.state made is (refl, refl, refl, refl) c.with_bounds.ensures
@@ -238,7 +238,7 @@ returns-in-1 c =
 pub returns-in-2 : goal.returns-in-2
 unfolding kind_number
 returns-in-2 c =
-        let ready = c.requires.0 in
+    let ready = c.requires.0 in
     let is = c.in-2.is in
     let made = part-made _ ready.logged is c.put_partition.ensures in
     planned_bounds c.args.rec.now ready.logged c.args.w.now _ c.args.state made is (refl, refl, refl, refl) c.with_bounds-in-2.ensures
@@ -246,7 +246,7 @@ returns-in-2 c =
 pub returns-in-3 : goal.returns-in-3
 unfolding kind_number
 returns-in-3 c =
-        let ready = c.requires.0 in
+    let ready = c.requires.0 in
     let is = c.in-3.is in
     let made = set-made _ ready.logged BrokerRegistration broker is ready.good c.set.ensures in
     planned_bounds c.args.rec.now ready.logged c.args.w.now _ c.args.state made is (refl, refl, refl, refl) c.with_bounds-in-3.ensures
@@ -254,7 +254,7 @@ returns-in-3 c =
 pub returns-in-4 : goal.returns-in-4
 unfolding kind_number
 returns-in-4 c =
-        let ready = c.requires.0 in
+    let ready = c.requires.0 in
     let is = c.in-4.is in
     let made = delete_made _ ready.logged is c.delete_topic.ensures in
     planned_bounds c.args.rec.now ready.logged c.args.w.now _ c.args.state made is (refl, refl, refl, refl) c.with_bounds-in-4.ensures
@@ -262,7 +262,7 @@ returns-in-4 c =
 pub returns-in-5 : goal.returns-in-5
 unfolding kind_number
 returns-in-5 c =
-        let ready = c.requires.0 in
+    let ready = c.requires.0 in
     let is = c.in-5.is in
     let made = set-made _ ready.logged TopicConfig topic_config is ready.good c.set-in-5.ensures in
     planned_bounds c.args.rec.now ready.logged c.args.w.now _ c.args.state made is (refl, refl, refl, refl) c.with_bounds-in-5.ensures
@@ -270,7 +270,7 @@ returns-in-5 c =
 pub returns-in-6 : goal.returns-in-6
 unfolding kind_number
 returns-in-6 c =
-        let ready = c.requires.0 in
+    let ready = c.requires.0 in
     let is = c.in-6.is in
     let made = config_made _ ready.logged is c.member.ensures in
     planned_bounds c.args.rec.now ready.logged c.args.w.now _ c.args.state made is (refl, refl, refl, refl) c.with_bounds-in-6.ensures
@@ -278,7 +278,7 @@ returns-in-6 c =
 pub returns-in-7 : goal.returns-in-7
 unfolding kind_number
 returns-in-7 c =
-        let ready = c.requires.0 in
+    let ready = c.requires.0 in
     let is = c.in-7.is in
     let made = by_record _ ready.logged ClientQuota is (λ e. impossible cc) c.quota.ensures in
     planned_bounds c.args.rec.now ready.logged c.args.w.now _ c.args.state made is (refl, refl, refl, refl) c.with_bounds-in-7.ensures
@@ -286,7 +286,7 @@ returns-in-7 c =
 pub returns-in-8 : goal.returns-in-8
 unfolding kind_number
 returns-in-8 c =
-        let ready = c.requires.0 in
+    let ready = c.requires.0 in
     let is = c.in-8.is in
     let made = by_record _ ready.logged ProducerIds is (λ e. impossible cc) c.producers.ensures in
     planned_bounds c.args.rec.now ready.logged c.args.w.now _ c.args.state made is (refl, refl, refl, refl) c.with_bounds-in-8.ensures
@@ -294,20 +294,20 @@ returns-in-8 c =
 pub returns-in-9 : goal.returns-in-9
 unfolding kind_number
 returns-in-9 c =
-        let ready = c.requires.0 in
+    let ready = c.requires.0 in
     let is = c.in-9.is in
     let made = by_record _ ready.logged UnregisterBroker is (λ e. impossible cc) c.unregister.ensures in
     planned_bounds c.args.rec.now ready.logged c.args.w.now _ c.args.state made is (refl, refl, refl, refl) c.with_bounds-in-9.ensures
 
 pub returns-in-10 : goal.returns-in-10
 returns-in-10 c =
-        let ready = c.requires.0 in
+    let ready = c.requires.0 in
     planned_kraft c.args.rec.now ready.logged c.args.w.now c.args.state ready.good c.in-10.is c.with_kraft.ensures
 
 pub returns-in-11 : goal.returns-in-11
 unfolding kind_number
 returns-in-11 c =
-        let ready = c.requires.0 in
+    let ready = c.requires.0 in
     let is = c.in-11.is in
     let made = set-made _ ready.logged FeatureLevel level is ready.good c.set-in-11.ensures in
     planned_level c.args.rec.now ready.logged c.args.w.now _ c.args.state made is c.with_level.ensures
@@ -315,33 +315,33 @@ returns-in-11 c =
 pub returns-in-12 : goal.returns-in-12
 unfolding kind_number
 returns-in-12 c =
-        let ready = c.requires.0 in
+    let ready = c.requires.0 in
     let is = c.in-12.is in
     let made = set-made _ ready.logged ClientMetricsConfig metrics is ready.good c.set-in-12.ensures in
     planned_bounds c.args.rec.now ready.logged c.args.w.now _ c.args.state made is (refl, refl, refl, refl) c.with_bounds-in-12.ensures
 
 pub returns-in-13 : goal.returns-in-13
 returns-in-13 c =
-        let ready = c.requires.0 in
+    let ready = c.requires.0 in
     planned_epoch c.args.rec.now ready.logged c.args.w.now c.args.state ready.good c.in-13.is c.with_epoch.ensures
 
 pub returns-in-14 : goal.returns-in-14
 unfolding kind_number
 returns-in-14 c =
-        let ready = c.requires.0 in
+    let ready = c.requires.0 in
     let is = c.in-14.is in
     let made = by_record _ ready.logged PartitionDirAssignment is (λ e. impossible cc) c.assign.ensures in
     planned_bounds c.args.rec.now ready.logged c.args.w.now _ c.args.state made is (refl, refl, refl, refl) c.with_bounds-in-14.ensures
 
 pub returns-in-15 : goal.returns-in-15
 returns-in-15 c =
-                planned_offset c.args.rec.now c.requires.0.logged c.in-15.is c.args.w.now c.add_offset.new.w c.args.state
+    planned_offset c.args.rec.now c.requires.0.logged c.in-15.is c.args.w.now c.add_offset.new.w c.args.state
     c.add_offset.result c.add_offset.ensures
 
 pub returns-in-16 : goal.returns-in-16
 unfolding kind_number
 returns-in-16 c =
-        let ready = c.requires.0 in
+    let ready = c.requires.0 in
     let is = c.in-16.is in
     let made = set-made _ ready.logged GroupConfig group is ready.good c.set-in-16.ensures in
     planned_bounds c.args.rec.now ready.logged c.args.w.now _ c.args.state made is (refl, refl, refl, refl) c.with_bounds-in-16.ensures
@@ -349,7 +349,7 @@ returns-in-16 c =
 pub returns-in-17 : goal.returns-in-17
 unfolding kind_number
 returns-in-17 c =
-        let ready = c.requires.0 in
+    let ready = c.requires.0 in
     let is = c.in-17.is in
     let made = set-made _ ready.logged ControllerRegistration controller is ready.good c.set-in-17.ensures in
     planned_bounds c.args.rec.now ready.logged c.args.w.now _ c.args.state made is (refl, refl, refl, refl) c.with_bounds-in-17.ensures
@@ -357,7 +357,7 @@ returns-in-17 c =
 pub returns-in-18 : goal.returns-in-18
 unfolding kind_number
 returns-in-18 c =
-        let ready = c.requires.0 in
+    let ready = c.requires.0 in
     let is = c.in-18.is in
     let made = set-made _ ready.logged TopicFreeze freeze is ready.good c.set-in-18.ensures in
     planned_bounds c.args.rec.now ready.logged c.args.w.now _ c.args.state made is (refl, refl, refl, refl) c.with_bounds-in-18.ensures
@@ -365,7 +365,7 @@ returns-in-18 c =
 pub returns-in-19 : goal.returns-in-19
 unfolding kind_number
 returns-in-19 c =
-        let ready = c.requires.0 in
+    let ready = c.requires.0 in
     let is = c.in-19.is in
     let made = set-made _ ready.logged BreakGlassProposal proposal is ready.good c.set-in-19.ensures in
     planned_bounds c.args.rec.now ready.logged c.args.w.now _ c.args.state made is (refl, refl, refl, refl) c.with_bounds-in-19.ensures
@@ -373,7 +373,7 @@ returns-in-19 c =
 pub returns-in-20 : goal.returns-in-20
 unfolding kind_number
 returns-in-20 c =
-        let ready = c.requires.0 in
+    let ready = c.requires.0 in
     let is = c.in-20.is in
     let made = proposal_made _ ready.logged is c.erase_first.ensures in
     planned_bounds c.args.rec.now ready.logged c.args.w.now _ c.args.state made is (refl, refl, refl, refl) c.with_bounds-in-20.ensures
@@ -381,7 +381,7 @@ returns-in-20 c =
 pub returns-in-21 : goal.returns-in-21
 unfolding kind_number
 returns-in-21 c =
-        let ready = c.requires.0 in
+    let ready = c.requires.0 in
     let is = c.in-21.is in
     let made = set-made _ ready.logged PartitionElr elr is ready.good c.set-in-21.ensures in
     planned_bounds c.args.rec.now ready.logged c.args.w.now _ c.args.state made is (refl, refl, refl, refl) c.with_bounds-in-21.ensures
@@ -389,7 +389,7 @@ returns-in-21 c =
 pub returns-in-22 : goal.returns-in-22
 unfolding kind_number
 returns-in-22 c =
-        let ready = c.requires.0 in
+    let ready = c.requires.0 in
     let is = c.in-22.is in
     let made = set-made _ ready.logged PartitionRecovery recovery is ready.good c.set-in-22.ensures in
     planned_bounds c.args.rec.now ready.logged c.args.w.now _ c.args.state made is (refl, refl, refl, refl) c.with_bounds-in-22.ensures
@@ -397,7 +397,7 @@ returns-in-22 c =
 pub returns-in-23 : goal.returns-in-23
 unfolding kind_number
 returns-in-23 c =
-        let ready = c.requires.0 in
+    let ready = c.requires.0 in
     let is = c.in-23.is in
     let made = update_made _ ready.logged is c.update.ensures in
     planned_bounds c.args.rec.now ready.logged c.args.w.now _ c.args.state made is (refl, refl, refl, refl) c.with_bounds-in-23.ensures
@@ -405,7 +405,7 @@ returns-in-23 c =
 pub returns-in-24 : goal.returns-in-24
 unfolding kind_number
 returns-in-24 c =
-        let ready = c.requires.0 in
+    let ready = c.requires.0 in
     let is = c.in-24.is in
     let made = by_record _ ready.logged BrokerRegistrationChange is (λ e. impossible cc) c.change_broker.ensures in
     planned_bounds c.args.rec.now ready.logged c.args.w.now _ c.args.state made is (refl, refl, refl, refl) c.with_bounds-in-24.ensures
@@ -413,7 +413,7 @@ returns-in-24 c =
 pub returns-in-25 : goal.returns-in-25
 unfolding kind_number
 returns-in-25 c =
-        let ready = c.requires.0 in
+    let ready = c.requires.0 in
     let is = c.in-25.is in
     let made = controller_made _ ready.logged is (drop-lent 17 c.node_at.ensures c.erase_node.ensures) in
     planned_bounds c.args.rec.now ready.logged c.args.w.now _ c.args.state made is (refl, refl, refl, refl) c.with_bounds-in-25.ensures

@@ -14,10 +14,10 @@ slice_bounds-weight_of-end c =
 
 pub weight_of-requires : goal.weight_of-requires
 weight_of-requires c =
-        let good = c.requires.0 in
+    let good = c.requires.0 in
     (good.reals, omega (arith, good.fits, c.requires.3))
 
 pub returns : goal.returns
 returns c =
-        let are = known_bytes c.args.w.now (λ i. omega (arith, c.type_inv.w i)) in
+    let are = known_bytes c.args.w.now (λ i. omega (arith, c.type_inv.w i)) in
     λ f. ap (λ n. leb n c.args.capacity) (weight_is _ _ are c.requires.0 f c.requires.1 _ c.weight_of.ensures)

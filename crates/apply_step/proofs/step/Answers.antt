@@ -9,7 +9,7 @@ use Rattle.apply_step.proofs.step.Goals as goal
 
 pub make-requires : goal.make-requires
 make-requires c =
-        let a = c.args in
+    let a = c.args in
     let holding = c.requires.0 in (
       record {
         good = holding.good;
@@ -25,7 +25,7 @@ make-requires c =
 
 pub is_light-requires : goal.is_light-requires
 is_light-requires c =
-                let a = c.args in
+    let a = c.args in
     let rec = known_bytes a.rec.now (λ i. omega (arith, c.type_inv.rec i)) in
     let made = subst (Planned (logged_in c.args.rec.now) c.args.w.now c.args.state c.make.new.w) c.in-Moved.is c.make.ensures in (
       made.1.good,
@@ -36,20 +36,20 @@ is_light-requires c =
 
 pub returns-then-not-is_light : goal.returns-then-not-is_light
 returns-then-not-is_light c =
-                    let a = c.args in
+    let a = c.args in
     let rec = known_bytes a.rec.now (λ i. omega (arith, c.type_inv.rec i)) in
     let made = subst (Planned (logged_in c.args.rec.now) c.args.w.now c.args.state c.make.new.w) c.in-Moved.is c.make.ensures in
     (too_heavy a.w.now c.make.new.w a.state _ a.capacity c.requires.0 a.rec.now c.requires.1 rec made c.is_light.ensures c.if-not-is_light.true-raw, tt)
 
 pub returns-in-Refused : goal.returns-in-Refused
 returns-in-Refused c =
-            let a = c.args in
+    let a = c.args in
     let refused = subst (Planned (logged_in c.args.rec.now) c.args.w.now c.args.state c.make.new.w) c.in-Refused.is c.make.ensures in
     (overflowing a.w.now c.make.new.w a.state a.capacity a.rec.now refused, tt)
 
 pub returns-else-not-is_light : goal.returns-else-not-is_light
 returns-else-not-is_light c =
-                        let a = c.args in
+    let a = c.args in
     let rec = known_bytes a.rec.now (λ i. omega (arith, c.type_inv.rec i)) in
     let made = subst (Planned (logged_in c.args.rec.now) c.args.w.now c.args.state c.make.new.w) c.in-Moved.is c.make.ensures in
     let light = c.is_light.ensures in

@@ -5,4 +5,4 @@ use Rattle.apply_topics.proofs.delete_topic.Goals as goal
 
 pub returns : goal.returns
 returns c =
-            deleted _ (lent-value _ _ _ _ c.value_at-p.ensures) c.clear_old_named.ensures c.drop_topic.ensures
+    deleted _ (lent-value _ _ _ _ c.value_at-p.ensures) c.clear_old_named.ensures c.drop_topic.ensures

@@ -11,22 +11,22 @@ use Rattle.apply_topics.proofs.put_topic.Goals as goal
 
 pub clear_old_named-count-requires : goal.clear_old_named-count-requires
 clear_old_named-count-requires c =
-        (c.requires.0, logged-headed _ c.requires.1, (topic_logged _ c.requires.1 c.requires.2).name_fits)
+    (c.requires.0, logged-headed _ c.requires.1, (topic_logged _ c.requires.1 c.requires.2).name_fits)
 
 pub value_at-p-requires : goal.value_at-p-requires
 value_at-p-requires c = logged-headed _ c.requires.1
 
 pub slice_bounds-put_real-end : goal.slice_bounds-put_real-end
 slice_bounds-put_real-end c =
-        omega (arith, c.topic_record-n.ensures.1, c.topic_record-n.auto.b)
+    omega (arith, c.topic_record-n.ensures.1, c.topic_record-n.auto.b)
 
 pub slice_bounds-put_real-end-2 : goal.slice_bounds-put_real-end-2
 slice_bounds-put_real-end-2 c =
-        sym (length-take-le _ _ (omega (arith, c.topic_record-n.ensures.1, c.topic_record-n.auto.b)))
+    sym (length-take-le _ _ (omega (arith, c.topic_record-n.ensures.1, c.topic_record-n.auto.b)))
 
 pub put_real-requires : goal.put_real-requires
 put_real-requires c =
-                            let are_bytes_lem = known_bytes c.args.rec.now (λ i. omega (arith, c.type_inv.rec i)) in
+    let are_bytes_lem = known_bytes c.args.rec.now (λ i. omega (arith, c.type_inv.rec i)) in
     let count-fits-here = count_fits_lem _ _ (known_bytes c.args.w.now (λ i. omega (arith, c.slice_known-1.given i))) c.requires.0 _
     c.clear_old_named-count.ensures.3 in
     let is = topic_is _ c.requires.1 c.requires.2 are_bytes_lem c.clear_old_named-count.result
@@ -40,7 +40,7 @@ put_real-requires c =
 
 pub returns : goal.returns
 returns c =
-                                let are_bytes_lem = known_bytes c.args.rec.now (λ i. omega (arith, c.type_inv.rec i)) in
+    let are_bytes_lem = known_bytes c.args.rec.now (λ i. omega (arith, c.type_inv.rec i)) in
     let count-fits-here = count_fits_lem _ _ (known_bytes c.args.w.now (λ i. omega (arith, c.slice_known-1.given i))) c.requires.0 _
     c.clear_old_named-count.ensures.3 in
     topic_moved _ c.requires.1 c.requires.2 are_bytes_lem c.clear_old_named-count.result

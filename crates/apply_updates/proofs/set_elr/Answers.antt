@@ -11,11 +11,11 @@ use Rattle.apply_updates.proofs.set_elr.Goals as goal
 
 pub returns-then-not-has : goal.returns-then-not-has
 returns-then-not-has c =
-        no_eligible c.requires.0 (record_in c.args.rec.now).run c.has.ensures c.if-not-has.true-raw
+    no_eligible c.requires.0 (record_in c.args.rec.now).run c.has.ensures c.if-not-has.true-raw
 
 pub returns-then-not-has-2 : goal.returns-then-not-has-2
 returns-then-not-has-2 c =
-        no_known c.requires.0 (record_in c.args.rec.now).run c.has.ensures c.if-not-has.false-raw c.has-2.ensures c.if-not-has-2.true-raw
+    no_known c.requires.0 (record_in c.args.rec.now).run c.has.ensures c.if-not-has.false-raw c.has-2.ensures c.if-not-has-2.true-raw
 
 pub slice_bounds-set-end-2 : goal.slice_bounds-set-end-2
 slice_bounds-set-end-2 c =
@@ -26,7 +26,7 @@ pub set-requires : goal.set-requires
 set-requires c =
     let elr : IsRecord (take c.elr_record-n.result c.elr_record-n.new.b) × (record_in (take c.elr_record-n.result c.elr_record-n.new.b) ≡ updated_elr (record_in c.args.rec.now).run) = let s = c.args.rec.now in let are = known_bytes s (λ i. omega (arith, c.type_inv.rec i)) in elr_is s c.requires.1 are c.has.ensures c.if-not-has.false-raw c.has-2.ensures c.if-not-has-2.false-raw _ c.elr_record-n.ensures.0 in
     let e = elr in
-        (c.requires.0, e.0, elr_plain (record_in c.args.rec.now).run e.1, c.requires.2)
+    (c.requires.0, e.0, elr_plain (record_in c.args.rec.now).run e.1, c.requires.2)
 
 pub returns : goal.returns
 returns c =

@@ -6,5 +6,5 @@ use Rattle.apply_work.proofs.drop_group.Goals as goal
 
 pub returns : goal.returns
 returns c =
-        let are_bytes = known_bytes c.args.w.now (λ i. omega (arith, c.slice_known-1.given i)) in
+    let are_bytes = known_bytes c.args.w.now (λ i. omega (arith, c.slice_known-1.given i)) in
     drop_groups are_bytes c.requires.0 _ c.remove-left.ensures

@@ -7,5 +7,5 @@ use Rattle.apply_work.proofs.drop_topic.Goals as goal
 
 pub returns : goal.returns
 returns c =
-        let are_bytes = known_bytes c.args.w.now (λ i. omega (arith, c.slice_known-1.given i)) in
+    let are_bytes = known_bytes c.args.w.now (λ i. omega (arith, c.slice_known-1.given i)) in
     keep_reals are_bytes c.requires _ refl c.remove_topic-left.ensures

@@ -29,7 +29,7 @@ check_run-requires c =
 
 pub returns-in-Refused : goal.returns-in-Refused
 returns-in-Refused c =
-        start_unread _ c.if-run-eq0.false (ap replied (sym c.in-Refused.is) ∙ c.read_from.ensures)
+    start_unread _ c.if-run-eq0.false (ap replied (sym c.in-Refused.is) ∙ c.read_from.ensures)
 
 pub returns-else-run-ne-LOG_OFFSET : goal.returns-else-run-ne-LOG_OFFSET
 returns-else-run-ne-LOG_OFFSET c =

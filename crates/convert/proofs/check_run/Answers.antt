@@ -29,7 +29,7 @@ read_from-requires c = c.requires.0
 
 pub returns-in-Refused : goal.returns-in-Refused
 returns-in-Refused c =
-                stopped_unread _ c.args.run.now c.loop-at.invariant c.loop-at-test.true (ap replied (sym c.in-Refused.is) ∙ c.read_from.ensures)
+    stopped_unread _ c.args.run.now c.loop-at.invariant c.loop-at-test.true (ap replied (sym c.in-Refused.is) ∙ c.read_from.ensures)
 
 pub returns-then-run-at-eq-LOG_OFFSET : goal.returns-then-run-at-eq-LOG_OFFSET
 returns-then-run-at-eq-LOG_OFFSET c =

@@ -4,7 +4,7 @@ use Rattle.convert.proofs.without_offset.Goals as goal
 
 pub put_old-requires : goal.put_old-requires
 put_old-requires c =
-            let a = c.args in
+    let a = c.args in
     new_passes a.run.now a.out.now c.check_new.ensures c.in-Passes.is
 
 pub returns-in-Fails : goal.returns-in-Fails

@@ -8,7 +8,7 @@ returns-then-not-is_image c =
 
 pub emit_listed-requires : goal.emit_listed-requires
 emit_listed-requires c =
-        image_is _ c.args.level c.args.out.now c.is_image.ensures c.if-not-is_image.false-raw
+    image_is _ c.args.level c.args.out.now c.is_image.ensures c.if-not-is_image.false-raw
 
 pub returns : goal.returns
 returns c =

@@ -23,5 +23,5 @@ returns-then-not-is_under c =
 
 pub returns : goal.returns
 returns c =
-            listed-size _ _ (of_partition _ c.requires _ c.if-s-ne-PARTITION.false c.is_under.ensures c.if-not-is_under.false-raw) c.assignments_size.ensures.0
+    listed-size _ _ (of_partition _ c.requires _ c.if-s-ne-PARTITION.false c.is_under.ensures c.if-not-is_under.false-raw) c.assignments_size.ensures.0
     c.assignments_size.ensures.1

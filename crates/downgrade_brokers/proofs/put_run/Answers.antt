@@ -6,7 +6,7 @@ use Rattle.downgrade_brokers.proofs.put_run.Goals as goal
 
 pub loop-tag-init : goal.loop-tag-init
 loop-tag-init c =
-        write_start _ _ _ _ _ c.requires.0 c.requires.1 c.requires.2
+    write_start _ _ _ _ _ c.requires.0 c.requires.1 c.requires.2
 
 pub next-requires : goal.next-requires
 next-requires c = inside c.loop-tag.invariant.ahead

@@ -15,20 +15,19 @@ value_at-dirs-requires c = headed _ c.requires.0
 
 pub overflow_add-size-2 : goal.overflow_add-size-2
 overflow_add-size-2 c =
-                omega (arith, size_fits _ c.requires.0 c.requires.1 _ _ _ _ c.value_at-name.ensures c.value_at-number.ensures)
+    omega (arith, size_fits _ c.requires.0 c.requires.1 _ _ _ _ c.value_at-name.ensures c.value_at-number.ensures)
 
 pub slot_count-requires : goal.slot_count-requires
 slot_count-requires c = headed _ c.requires.0
 
 pub slots_size-requires : goal.slots_size-requires
-slots_size-requires c =
-                (
-      (may-count _ c.requires.0 c.requires.1 _ _ _ _ _ _ c.value_at-name.ensures c.value_at-number.ensures c.value_at-dirs.ensures c.slot_count.ensures).0,
-      (may-count _ c.requires.0 c.requires.1 _ _ _ _ _ _ c.value_at-name.ensures c.value_at-number.ensures c.value_at-dirs.ensures c.slot_count.ensures).1,
-      omega (arith, size_fits _ c.requires.0 c.requires.1 _ _ _ _ c.value_at-name.ensures c.value_at-number.ensures),
-    )
+slots_size-requires c = (
+  (may-count _ c.requires.0 c.requires.1 _ _ _ _ _ _ c.value_at-name.ensures c.value_at-number.ensures c.value_at-dirs.ensures c.slot_count.ensures).0,
+  (may-count _ c.requires.0 c.requires.1 _ _ _ _ _ _ c.value_at-name.ensures c.value_at-number.ensures c.value_at-dirs.ensures c.slot_count.ensures).1,
+  omega (arith, size_fits _ c.requires.0 c.requires.1 _ _ _ _ c.value_at-name.ensures c.value_at-number.ensures),
+)
 
 pub returns : goal.returns
 returns c =
-                    all-size _ c.requires.0 c.requires.1 _ _ _ _ _ _ c.value_at-name.ensures c.value_at-number.ensures c.value_at-dirs.ensures
+    all-size _ c.requires.0 c.requires.1 _ _ _ _ _ _ c.value_at-name.ensures c.value_at-number.ensures c.value_at-dirs.ensures
     c.slot_count.ensures c.slots_size.ensures

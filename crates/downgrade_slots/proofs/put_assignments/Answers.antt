@@ -20,10 +20,10 @@ slot_count-requires c = headed _ c.requires.0
 
 pub put_slots-requires : goal.put_slots-requires
 put_slots-requires c =
-                            may-put _ c.requires.0 c.requires.1 _ _ _ _ _ _ c.value_at-name.ensures c.value_at-number.ensures c.value_at-dirs.ensures
+    may-put _ c.requires.0 c.requires.1 _ _ _ _ _ _ c.value_at-name.ensures c.value_at-number.ensures c.value_at-dirs.ensures
     c.slot_count.ensures _ _ c.value_at-nodes.ensures c.args.out.now _ c.requires.2
 
 pub returns : goal.returns
 returns c =
-                            all-put _ c.requires.0 c.requires.1 _ _ _ _ _ _ c.value_at-name.ensures c.value_at-number.ensures c.value_at-dirs.ensures
+    all-put _ c.requires.0 c.requires.1 _ _ _ _ _ _ c.value_at-name.ensures c.value_at-number.ensures c.value_at-dirs.ensures
     c.slot_count.ensures _ _ c.value_at-nodes.ensures c.args.out.now c.args.at c.put_slots.ensures

@@ -14,13 +14,13 @@ returns-then-same c = slot-none _ _ _ _ c.same.ensures c.args.out.now _ c.if-sam
 
 pub put_assignment-requires : goal.put_assignment-requires
 put_assignment-requires c =
-                    let a = c.args in
+    let a = c.args in
     let fits = slot_fits a.name.now a.number.now (bytes 8 a.node.0) a.dir.now c.same.ensures a.out.now _ c.if-same.false c.requires in
     subst (λ v. a.at + length (record_bytes (assigning a.name.now a.number.now v)) ≤ length a.out.now) (sym c.put.ensures) fits
 
 pub returns : goal.returns
 returns c =
-                    let a = c.args in
+    let a = c.args in
     let put = c.put_assignment in
     let said = subst
     (λ v. (put.result ≡ a.at + length (record_bytes (assigning a.name.now a.number.now v))) ×

@@ -12,14 +12,14 @@ get-requires c = (omega arith, omega (arith, c.requires.0))
 
 pub put_slot-to-requires : goal.put_slot-to-requires
 put_slot-to-requires c =
-                    let nodes = c.args.nodes.now in
+    let nodes = c.args.nodes.now in
     let are = known_bytes nodes (λ i. omega (arith, c.type_inv.nodes i)) in
     let node = node_lent nodes are c.loop-i.i (omega (arith, c.requires.0, c.loop-i-test.true)) c.get.ensures.0 in
     slot-room c.loop-i.invariant c.loop-i-test.true node
 
 pub loop-i-preserved : goal.loop-i-preserved
 loop-i-preserved c =
-                        let nodes = c.args.nodes.now in
+    let nodes = c.args.nodes.now in
     let are = known_bytes nodes (λ i. omega (arith, c.type_inv.nodes i)) in
     let node = node_lent nodes are c.loop-i.i (omega (arith, c.requires.0, c.loop-i-test.true)) c.get.ensures.0 in
     write_turn c.loop-i.invariant c.loop-i-test.true node c.put_slot-to.ensures

@@ -9,7 +9,7 @@ seek-p-requires c =
 
 pub returns : goal.returns
 returns c =
-        let p = c.requires in
+    let p = c.requires in
     let place = c.seek-p.ensures in
     let spliced = c.splice in
     put_changed c.args.w.now spliced.new.w c.args.rec.now c.args.from c.args.to c.args.used _ _ _ p.0 p.1 p.2 spliced.auto.w p.4

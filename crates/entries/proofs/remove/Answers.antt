@@ -10,7 +10,7 @@ seek-p-requires c =
 
 pub returns : goal.returns
 returns c =
-        let p = c.requires in
+    let p = c.requires in
     let place = c.seek-p.ensures in
     let spliced = c.splice in
     remove_changed c.args.w.now spliced.new.w _ _ c.args.from c.args.to c.args.used _ _ _ p.0 p.1 p.2 spliced.auto.w refl

@@ -12,7 +12,7 @@ next-requires c = (c.loop-t.invariant.0, c.loop-t.invariant.2)
 
 pub returns-then-t-tag : goal.returns-then-t-tag
 returns-then-t-tag c =
-        let start = c.loop-t in
+    let start = c.loop-t in
     let step = c.next.ensures in
     let m = moved c.in-Field.is step.1 in
     place_found _ m start.invariant.2 (took _ step.0 c.in-Field.is) c.if-t-tag.true ∙ start.invariant.3
@@ -22,7 +22,7 @@ loop-t-smaller c = let m = moved c.in-Field.is c.next.ensures.1 in omega arith
 
 pub loop-t-preserved : goal.loop-t-preserved
 loop-t-preserved c =
-        let start = c.loop-t in
+    let start = c.loop-t in
     let step = c.next.ensures in
     let m = moved c.in-Field.is step.1 in (
       omega arith,

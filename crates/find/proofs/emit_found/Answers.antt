@@ -8,7 +8,7 @@ use Rattle.find.proofs.emit_found.Goals as goal
 
 pub emit_place-requires : goal.emit_place-requires
 emit_place-requires c =
-        let s = c.args.s.now in
+    let s = c.args.s.now in
     let are_bytes = known_bytes s (λ i. omega (arith, c.type_inv.s i)) in
     found-holds s _ _ _ c.find-p.ensures are_bytes c.requires.0 c.requires.1
 

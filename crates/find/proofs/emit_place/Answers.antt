@@ -7,7 +7,7 @@ slice_bounds-emit_returned-end c = (c.requires c.if-at-end.true).within
 
 pub emit_returned-requires : goal.emit_returned-requires
 emit_returned-requires c =
-        lent_entire c.args.s.now c.args.at c.args.end c.requires c.if-at-end.true
+    lent_entire c.args.s.now c.args.at c.args.end c.requires c.if-at-end.true
 
 pub returns-then-at-end : goal.returns-then-at-end
 returns-then-at-end c =

@@ -4,16 +4,15 @@ use Rattle.find.proofs.find.Goals as goal
 
 pub slice_bounds-seek-end : goal.slice_bounds-seek-end
 slice_bounds-seek-end c =
-            lent_length c.args.kind c.args.first.now c.args.second.now c.requires.1 c.probe-n.new.p c.probe-n.ensures.0 c.probe-n.ensures.1
+    lent_length c.args.kind c.args.first.now c.args.second.now c.requires.1 c.probe-n.new.p c.probe-n.ensures.0 c.probe-n.ensures.1
 
 pub seek-requires : goal.seek-requires
-seek-requires c =
-        (
-      c.requires.0,
-      lent_probe c.args.kind c.args.first.now c.args.second.now c.requires.1 c.probe-n.new.p c.probe-n.ensures.0 c.probe-n.ensures.1,
-    )
+seek-requires c = (
+  c.requires.0,
+  lent_probe c.args.kind c.args.first.now c.args.second.now c.requires.1 c.probe-n.new.p c.probe-n.ensures.0 c.probe-n.ensures.1,
+)
 
 pub returns : goal.returns
 returns c =
-            lent-place c.args.kind c.args.first.now c.args.second.now c.requires.1 c.probe-n.new.p c.probe-n.ensures.0
+    lent-place c.args.kind c.args.first.now c.args.second.now c.requires.1 c.probe-n.new.p c.probe-n.ensures.0
     c.probe-n.ensures.1 _ _ _ c.seek.ensures

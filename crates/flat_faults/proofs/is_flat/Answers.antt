@@ -32,13 +32,13 @@ returns-then-fields-tag c = never
 
 pub overflow_add-base : goal.overflow_add-base
 overflow_add-base c =
-                let p = c.requires in
+    let p = c.requires in
     let e = fields_are _ c.row_at.ensures c.size_in-fields.ensures in
     omega (arith, fits p.1 e c.if-fields-tag.false)
 
 pub row_at-row-requires : goal.row_at-row-requires
 row_at-row-requires c =
-                let p = c.requires in
+    let p = c.requires in
     let e = fields_are _ c.row_at.ensures c.size_in-fields.ensures in
     (p.0, fits p.1 e c.if-fields-tag.false)
 
@@ -47,7 +47,7 @@ returns-then-many_in-gt1 c = never
 
 pub is_right-requires : goal.is_right-requires
 is_right-requires c =
-                let m = moved c.in-Field.is c.next.ensures.1 in
+    let m = moved c.in-Field.is c.next.ensures.1 in
     (omega arith, omega (arith, c.loop-tag.invariant.1))
 
 pub returns-then-not-is_right : goal.returns-then-not-is_right
@@ -55,13 +55,13 @@ returns-then-not-is_right c = never
 
 pub loop-tag-smaller : goal.loop-tag-smaller
 loop-tag-smaller c =
-                                        let m = moved c.in-Field.is c.next.ensures.1 in
+    let m = moved c.in-Field.is c.next.ensures.1 in
     omega arith
 
 pub loop-tag-preserved : goal.loop-tag-preserved
 loop-tag-preserved c =
-                                        let m = moved c.in-Field.is c.next.ensures.1 in
-            let p = c.requires in
+    let m = moved c.in-Field.is c.next.ensures.1 in
+    let p = c.requires in
     let e = fields_are _ c.row_at.ensures c.size_in-fields.ensures in
     let once = c.many_in.ensures in (
       omega arith,
@@ -82,5 +82,5 @@ end_fault-requires c =
 
 pub returns-in-End : goal.returns-in-End
 returns-in-End c =
-                let p = c.requires in
+    let p = c.requires in
     λ h. end p.1 c.loop-tag.invariant.3 (ended _ c.next.ensures.0 c.in-End.is) c.end_fault.ensures (eqb-true _ 0 h)

@@ -10,6 +10,6 @@ returns-then-not-is_list c = never
 
 pub returns : goal.returns
 returns c =
-            let lent = part_slice c.args.s.now c.args.from c.args.to c.requires.0 c.requires.1 in
+    let lent = part_slice c.args.s.now c.args.from c.args.to c.requires.0 c.requires.1 in
     let whole = c.is_list.ensures (not-false _ c.if-not-is_list.false-raw) in
     λ e. (whole.0, whole.1, sym (ap (λ v. no_repeats (nodes_of v)) lent) ∙ sym c.apart_in.ensures ∙ e)

@@ -13,6 +13,6 @@ returns-then-limit-to c = never
 
 pub returns : goal.returns
 returns c =
-        let lent = part_slice c.args.s.now c.args.from c.args.to c.requires.0 c.requires.1 in
+    let lent = part_slice c.args.s.now c.args.from c.args.to c.requires.0 c.requires.1 in
     let a = c.args in
     λ e. (le-leb (a.to - a.from) a.limit (omega (arith, c.if-limit-to.false)), sym (ap is_text lent) ∙ sym c.is_text.ensures ∙ e)

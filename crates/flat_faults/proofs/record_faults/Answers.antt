@@ -14,4 +14,4 @@ faults-requires c =
 
 pub returns : goal.returns
 returns c =
-        no_prior c.args.s.now c.no_key.ensures _ _ c.faults.ensures
+    no_prior c.args.s.now c.no_key.ensures _ _ c.faults.ensures

@@ -10,9 +10,9 @@ returns-then-not-same c = no_mark c.args.b.now c.same.ensures c.if-not-same.true
 pub returns-then-not-is_clear : goal.returns-then-not-is_clear
 unfolding mark
 returns-then-not-is_clear c =
-                no_gap c.args.b.now c.same.ensures c.if-not-same.false-raw c.is_clear.ensures c.if-not-is_clear.true-raw
+    no_gap c.args.b.now c.same.ensures c.if-not-same.false-raw c.is_clear.ensures c.if-not-is_clear.true-raw
 
 pub returns : goal.returns
 unfolding mark
 returns c =
-                    front-end c.args.b.now c.same.ensures c.if-not-same.false-raw c.is_clear.ensures c.if-not-is_clear.false-raw c.is_clear-2.ensures
+    front-end c.args.b.now c.same.ensures c.if-not-same.false-raw c.is_clear.ensures c.if-not-is_clear.false-raw c.is_clear-2.ensures

@@ -8,7 +8,7 @@ returns-then-not-is_capacity c =
 
 pub put_header-requires : goal.put_header-requires
 put_header-requires c =
-                    head_fits c.args.b.now c.is_capacity.ensures c.if-not-is_capacity.false-raw c.clear.ensures
+    head_fits c.args.b.now c.is_capacity.ensures c.if-not-is_capacity.false-raw c.clear.ensures
 
 pub returns : goal.returns
 returns c =

@@ -6,7 +6,7 @@ use Rattle.header.proofs.put_header.Goals as goal
 pub returns : goal.returns
 unfolding mark
 returns c =
-                                let l = c.copy in
+    let l = c.copy in
     let used = c.put in
     let gap = c.put-2 in
     let epoch = c.put-3 in

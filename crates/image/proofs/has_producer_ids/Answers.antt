@@ -9,4 +9,4 @@ seek-p-requires c = (c.requires, producer_keyed)
 
 pub returns : goal.returns
 returns c =
-        producers-there c.args.s.now (known_bytes c.args.s.now (λ i. omega (arith, c.type_inv.s i))) c.requires _ _ c.seek-p.ensures
+    producers-there c.args.s.now (known_bytes c.args.s.now (λ i. omega (arith, c.type_inv.s i))) c.requires _ _ c.seek-p.ensures

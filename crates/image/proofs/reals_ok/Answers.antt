@@ -8,17 +8,17 @@ returns-then-not-all_stored c = not_stored (records_in c.args.s.now) c.all_store
 
 pub returns-then-not-ascends : goal.returns-then-not-ascends
 returns-then-not-ascends c =
-            not_ascending (records_in c.args.s.now) c.all_stored.ensures c.if-not-all_stored.false-raw c.ascends.ensures c.if-not-ascends.true-raw
+    not_ascending (records_in c.args.s.now) c.all_stored.ensures c.if-not-all_stored.false-raw c.ascends.ensures c.if-not-ascends.true-raw
 
 pub counts_fit-requires : goal.counts_fit-requires
 counts_fit-requires c = (c.requires, holds c.ascends.ensures c.if-not-ascends.false-raw)
 
 pub returns-then-not-counts_fit : goal.returns-then-not-counts_fit
 returns-then-not-counts_fit c =
-                    not_counted (records_in c.args.s.now) c.all_stored.ensures c.if-not-all_stored.false-raw c.ascends.ensures c.if-not-ascends.false-raw
+    not_counted (records_in c.args.s.now) c.all_stored.ensures c.if-not-all_stored.false-raw c.ascends.ensures c.if-not-ascends.false-raw
     c.counts_fit.ensures c.if-not-counts_fit.true-raw
 
 pub returns : goal.returns
 returns c =
-                        ids_decide (records_in c.args.s.now) c.all_stored.ensures c.if-not-all_stored.false-raw c.ascends.ensures c.if-not-ascends.false-raw
+    ids_decide (records_in c.args.s.now) c.all_stored.ensures c.if-not-all_stored.false-raw c.ascends.ensures c.if-not-ascends.false-raw
     c.counts_fit.ensures c.if-not-counts_fit.false-raw c.ids_apart.ensures

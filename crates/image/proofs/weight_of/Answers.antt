@@ -4,8 +4,8 @@ use Rattle.image.proofs.weight_of.Goals as goal
 
 pub returns-then-has_producer_ids : goal.returns-then-has_producer_ids
 returns-then-has_producer_ids c =
-        weight_less c.args.reals.now c.args.used c.has_producer_ids.ensures c.if-has_producer_ids.true
+    weight_less c.args.reals.now c.args.used c.has_producer_ids.ensures c.if-has_producer_ids.true
 
 pub returns : goal.returns
 returns c =
-        weight-whole c.args.reals.now c.args.used c.has_producer_ids.ensures c.if-has_producer_ids.false
+    weight-whole c.args.reals.now c.args.used c.has_producer_ids.ensures c.if-has_producer_ids.false

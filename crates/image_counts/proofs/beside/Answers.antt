@@ -12,6 +12,6 @@ returns-then-rank-gt5 c = beside_high _ _ c.requires _ c.rank_of-rank.ensures c.
 
 pub returns : goal.returns
 returns c =
-                    let p = c.value_at-p in
+    let p = c.value_at-p in
     beside-named _ _ c.requires _ c.rank_of-rank.ensures c.if-rank-lt5.false
     c.if-rank-gt5.false _ c.compare.result (lent_slice _ _ _ p.ensures.1 ∙ p.ensures.0) c.compare.ensures

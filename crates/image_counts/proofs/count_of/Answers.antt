@@ -7,7 +7,7 @@ use Rattle.image_counts.proofs.count_of.Goals as goal
 
 pub loop-start-init : goal.loop-start-init
 loop-start-init c =
-        passed_start _ _ c.requires.0 c.requires.1
+    passed_start _ _ c.requires.0 c.requires.1
 
 pub slice_bounds-beside-count : goal.slice_bounds-beside-count
 slice_bounds-beside-count c =
@@ -47,7 +47,7 @@ loop-start-preserved-in-Less c =
 
 pub overflow_add-count : goal.overflow_add-count
 overflow_add-count c =
-        omega (arith, c.loop-start.invariant.low, c.loop-start.invariant.most)
+    omega (arith, c.loop-start.invariant.low, c.loop-start.invariant.most)
 
 pub loop-start-smaller : goal.loop-start-smaller
 loop-start-smaller c =

@@ -17,7 +17,7 @@ returns-then-not-is_below c = c.loop-j.invariant
 
 pub loop-j-preserved : goal.loop-j-preserved
 loop-j-preserved c =
-        let a = c.args in
+    let a = c.args in
     (omega arith, ascends-next a.high.now a.low.now a.order.now c.loop-j.j c.loop-j.invariant.1 (c.is_below.ensures (not-false _ c.if-not-is_below.false-raw)))
 
 pub returns : goal.returns

@@ -15,7 +15,7 @@ returns-then-order-j c = λ e. absurd (true_false e refl)
 
 pub loop-i-preserved : goal.loop-i-preserved
 loop-i-preserved c =
-        covers_next c.args.order.now _ _ c.loop-i.invariant _ c.if-j-n.false c.if-order-j.false
+    covers_next c.args.order.now _ _ c.loop-i.invariant _ c.if-j-n.false c.if-order-j.false
 
 pub returns : goal.returns
 returns c = λ e i h. c.loop-i.invariant i (omega arith)

@@ -8,4 +8,4 @@ returns-then-high-a c = by_lower _ _ _ _ c.if-high-a.true
 
 pub returns : goal.returns
 returns c =
-        by_upper _ _ _ _ (omega (arith, c.shared_slice_known-1.given c.args.a))
+    by_upper _ _ _ _ (omega (arith, c.shared_slice_known-1.given c.args.a))

@@ -12,7 +12,7 @@ use Rattle.image_ids.proofs.ids_apart_with.Goals as goal
 
 pub loop-start-init : goal.loop-start-init
 loop-start-init c =
-        walk_start _ _ c.requires.0 c.requires.1
+    walk_start _ _ c.requires.0 c.requires.1
 
 pub slice_bounds-is_named-count : goal.slice_bounds-is_named-count
 slice_bounds-is_named-count c =

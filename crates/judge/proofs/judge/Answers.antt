@@ -125,7 +125,7 @@ returns-in-8 c = c.producer_fault.ensures ∙ judged _ c.requires.1 ProducerIds 
 pub returns-in-9 : goal.returns-in-9
 unfolding alone against kind_number
 returns-in-9 c =
-        c.unless.ensures ∙ ap (λ x. unless x 9) (c.at_epoch.ensures ∙ of_node c.args.s.now c.args.rec.now c.node_at.ensures)
+    c.unless.ensures ∙ ap (λ x. unless x 9) (c.at_epoch.ensures ∙ of_node c.args.s.now c.args.rec.now c.node_at.ensures)
     ∙ judged _ c.requires.1 UnregisterBroker c.in-9.is _
 
 pub returns-in-10 : goal.returns-in-10
@@ -189,13 +189,13 @@ returns-in-23 c = c.unknown_nested.ensures ∙ judged _ c.requires.1 PartitionUp
 pub returns-in-24 : goal.returns-in-24
 unfolding alone against kind_number
 returns-in-24 c =
-        c.unless-in-24.ensures ∙ ap (λ x. unless x 8) (c.at_epoch-in-24.ensures ∙ of_node c.args.s.now c.args.rec.now c.node_at-in-24.ensures)
+    c.unless-in-24.ensures ∙ ap (λ x. unless x 8) (c.at_epoch-in-24.ensures ∙ of_node c.args.s.now c.args.rec.now c.node_at-in-24.ensures)
     ∙ judged _ c.requires.1 BrokerRegistrationChange c.in-24.is _
 
 pub returns-in-25 : goal.returns-in-25
 unfolding alone against kind_number
 returns-in-25 c =
-        c.unknown_controller.ensures
+    c.unknown_controller.ensures
     ∙ ap (λ v. unless (is_some (get key (node_key ControllerRegistration v) (entries_in c.args.s.now))) 10) c.node_at-in-25.ensures
     ∙ judged _ c.requires.1 UnregisterController c.in-25.is _
 

@@ -10,7 +10,7 @@ skip_field-requires c = c.loop-left.invariant.within
 
 pub returns-in-Refused : goal.returns-in-Refused
 returns-in-Refused c =
-                field-refused c.loop-left.invariant c.loop-left-test.true c.skip_field.result c.skip_field.ensures c.in-Refused.is
+    field-refused c.loop-left.invariant c.loop-left-test.true c.skip_field.result c.skip_field.ensures c.in-Refused.is
 
 pub overflow_sub-left : goal.overflow_sub-left
 overflow_sub-left c = omega (arith, c.loop-left-test.true)
@@ -20,7 +20,7 @@ loop-left-smaller c = omega (arith, c.loop-left-test.true)
 
 pub loop-left-preserved : goal.loop-left-preserved
 loop-left-preserved c =
-                field_skipped c.loop-left.invariant c.loop-left-test.true c.skip_field.result c.skip_field.ensures c.in-To.is
+    field_skipped c.loop-left.invariant c.loop-left-test.true c.skip_field.result c.skip_field.ensures c.in-To.is
 
 pub returns : goal.returns
 returns c = none_left c.loop-left.invariant c.loop-left-test.false

@@ -4,7 +4,7 @@ use Rattle.kafka_read.proofs.read.Goals as goal
 
 pub read_message-requires : goal.read_message-requires
 read_message-requires c =
-            let a = c.args in
+    let a = c.args in
     frame_within a.input.now a.out.now c.read_frame.result c.read_frame.ensures c.in-Message.is
 
 pub returns-in-Refused : goal.returns-in-Refused

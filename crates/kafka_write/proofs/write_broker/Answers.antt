@@ -8,7 +8,7 @@ returns-then-broker-ge-HALF c = let a = c.args in broker_large a.s.now a.out.now
 
 pub emit-requires : goal.emit-requires
 emit-requires c =
-                    let a = c.args in (
+    let a = c.args in (
       omega (arith, c.put.auto.s),
       part_fits a.s.now 2 _ _ c.value_at-epoch.ensures 255 c.requires.1.1,
       part_fits a.s.now 3 _ _ c.value_at-next.ensures 255 c.requires.1.2,
@@ -16,6 +16,6 @@ emit-requires c =
 
 pub returns : goal.returns
 returns c =
-                    let a = c.args in
+    let a = c.args in
     broker_sent a.s.now a.out.now a.key c.number_at-broker.ensures c.if-broker-ge-HALF.false c.put.ensures _ _ _ _ c.value_at-epoch.ensures c.value_at-next.ensures
     c.emit.ensures

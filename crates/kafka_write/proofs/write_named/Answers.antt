@@ -9,7 +9,7 @@ use Rattle.kafka_write.proofs.write_named.Goals as goal
 
 pub put_varint-n-requires : goal.put_varint-n-requires
 put_varint-n-requires c =
-                let a = c.args in
+    let a = c.args in
     varint-room (omega (arith, part_length _ _ _ _ c.value_at-name.ensures.1 c.value_at-name.ensures.2 c.value_at-name.ensures.0, c.requires.1.0))
 
 pub slice_bounds-size-end : goal.slice_bounds-size-end
@@ -22,7 +22,7 @@ slice_bounds-emit-end c =
 
 pub emit-requires : goal.emit-requires
 emit-requires c =
-                let a = c.args in (
+    let a = c.args in (
       simp length-take (omega (arith, c.put_varint-n.auto.out)),
       part_fits a.s.now 1 _ _ c.value_at-name.ensures 255 c.requires.1.0,
       part_fits a.s.now 2 _ _ c.value_at-rest.ensures 255 c.requires.1.1,
@@ -30,6 +30,6 @@ emit-requires c =
 
 pub returns : goal.returns
 returns c =
-                let a = c.args in
+    let a = c.args in
     named_sent a.s.now c.value_at-name.result.start c.value_at-name.result.end c.value_at-name.ensures (replicate 2 0) c.put_varint-n.ensures
     a.key a.out.now _ _ c.value_at-rest.ensures c.emit.ensures

@@ -16,7 +16,7 @@ returns-then-y-x c =
 
 pub compare_by-requires : goal.compare_by-requires
 compare_by-requires c =
-                        let p = c.requires in
+    let p = c.requires in
     let a = c.args in
     let e : c.rank_of-x.result ≡ c.rank_of-y.result = omega arith in
     let w =
@@ -27,7 +27,7 @@ compare_by-requires c =
 
 pub returns : goal.returns
 returns c =
-                        let p = c.requires in
+    let p = c.requires in
     let a = c.args in
     let e : c.rank_of-x.result ≡ c.rank_of-y.result = omega arith in
     c.compare_by.ensures

@@ -5,7 +5,7 @@ use Rattle.keys.proofs.compare_quotas.Goals as goal
 
 pub compare_field-requires : goal.compare_field-requires
 compare_field-requires c =
-        (c.requires.first, c.requires.second)
+    (c.requires.first, c.requires.second)
 
 pub returns-in-Less : goal.returns-in-Less
 returns-in-Less c = first_less _ c.in-Less.is c.compare_entities.ensures

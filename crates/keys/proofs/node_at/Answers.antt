@@ -8,5 +8,5 @@ number_at-requires c = (c.requires.0, omega arith, c.requires.1)
 
 pub returns : goal.returns
 returns c =
-        let are = known_bytes c.args.s.now (λ i. omega (arith, c.type_inv.s i)) in
+    let are = known_bytes c.args.s.now (λ i. omega (arith, c.type_inv.s i)) in
     spelt-value c.args.s.now are c.args.tag 8 c.requires.1 c.number_at.ensures

@@ -5,11 +5,11 @@ use Rattle.keys.proofs.number_at.Goals as goal
 
 pub get-requires : goal.get-requires
 get-requires c =
-        let v = c.value_at-p.ensures in
+    let v = c.value_at-p.ensures in
     let n = part_length _ _ _ _ v.1 v.2 v.0 in
     (c.requires.1, omega (arith, c.requires.2))
 
 pub returns : goal.returns
 returns c =
     let p = c.value_at-p in
-        spelt-number c.args.s.now p.result.start p.result.end _ p.ensures _ c.requires.2 _ c.get.ensures.0
+    spelt-number c.args.s.now p.result.start p.result.end _ p.ensures _ c.requires.2 _ c.get.ensures.0

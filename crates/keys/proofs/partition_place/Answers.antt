@@ -14,4 +14,4 @@ get-requires c =
 pub returns : goal.returns
 returns c =
     let p = c.value_at-p in
-        ap (place 4) (spelt-number c.args.s.now p.result.start p.result.end _ p.ensures 4 c.requires.1 _ c.get.ensures.0)
+    ap (place 4) (spelt-number c.args.s.now p.result.start p.result.end _ p.ensures 4 c.requires.1 _ c.get.ensures.0)

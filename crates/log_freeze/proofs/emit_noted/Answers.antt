@@ -13,7 +13,7 @@ returns-then-v-eq0 c =
 
 pub emit_record-requires : goal.emit_record-requires
 emit_record-requires c =
-            noted-there c.args.run.now c.args.name.now c.args.out.now c.requires.2 c.args.slots.now c.requires.0 c.is_internal.ensures c.if-is_internal.false
+    noted-there c.args.run.now c.args.name.now c.args.out.now c.requires.2 c.args.slots.now c.requires.0 c.is_internal.ensures c.if-is_internal.false
     c.choose-v.ensures c.if-v-eq0.false
 
 pub returns : goal.returns

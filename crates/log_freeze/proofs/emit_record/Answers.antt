@@ -16,7 +16,7 @@ get16-requires c = header_fits c.args.run.now c.args.at c.requires
 
 pub overflow_add-end-2 : goal.overflow_add-end-2
 overflow_add-end-2 c =
-        omega (arith, record-fits c.args.run.now c.args.at c.requires c.get16.ensures.0, c.ranges)
+    omega (arith, record-fits c.args.run.now c.args.at c.requires c.get16.ensures.0, c.ranges)
 
 pub slice_bounds-emit_bytes-end : goal.slice_bounds-emit_bytes-end
 slice_bounds-emit_bytes-end c = record-fits c.args.run.now c.args.at c.requires c.get16.ensures.0

@@ -19,7 +19,7 @@ note_all-requires c =
 pub emit_noted-requires : goal.emit_noted-requires
 emit_noted-requires c =
     let right : 0 ≡ text_fault string_limit c.args.name.now = sym c.if-f-ne0.false ∙ c.text_fault-f.ensures in
-    let noted : ( let a = c.args in Noted a.run.now a.name.now c.note_all.new.slots) = subst (PassAs _ _ c.note_all.new.slots) c.in-Done.is c.note_all.ensures in
+    let noted : (let a = c.args in Noted a.run.now a.name.now c.note_all.new.slots) = subst (PassAs _ _ c.note_all.new.slots) c.in-Done.is c.note_all.ensures in
     (noted, c.note_all.auto.slots, name_fits _ right)
 
 pub returns-in-Stopped : goal.returns-in-Stopped
@@ -30,13 +30,13 @@ returns-in-Stopped c =
 pub returns-in-Used : goal.returns-in-Used
 returns-in-Used c =
     let right : 0 ≡ text_fault string_limit c.args.name.now = sym c.if-f-ne0.false ∙ c.text_fault-f.ensures in
-    let noted : ( let a = c.args in Noted a.run.now a.name.now c.note_all.new.slots) = subst (PassAs _ _ c.note_all.new.slots) c.in-Done.is c.note_all.ensures in
+    let noted : (let a = c.args in Noted a.run.now a.name.now c.note_all.new.slots) = subst (PassAs _ _ c.note_all.new.slots) c.in-Done.is c.note_all.ensures in
     let w = c.emit_noted.ensures in
     let the_whole = all_right _ _ _ right noted.checks (ap replied (sym c.in-Used.is) ∙ w.result_value, w.out_after) in record { result_value = the_whole.0; out_after = the_whole.1 }
 
 pub returns-in-Refused : goal.returns-in-Refused
 returns-in-Refused c =
     let right : 0 ≡ text_fault string_limit c.args.name.now = sym c.if-f-ne0.false ∙ c.text_fault-f.ensures in
-    let noted : ( let a = c.args in Noted a.run.now a.name.now c.note_all.new.slots) = subst (PassAs _ _ c.note_all.new.slots) c.in-Done.is c.note_all.ensures in
+    let noted : (let a = c.args in Noted a.run.now a.name.now c.note_all.new.slots) = subst (PassAs _ _ c.note_all.new.slots) c.in-Done.is c.note_all.ensures in
     let w = c.emit_noted.ensures in
     let the_whole = all_right _ _ _ right noted.checks (ap replied (sym c.in-Refused.is) ∙ w.result_value, w.out_after) in record { result_value = the_whole.0; out_after = the_whole.1 }

@@ -17,18 +17,18 @@ offset_bounds-slots-i c = omega (arith, c.loop-i.invariant.0, c.requires.1)
 
 pub bounds-slots-i : goal.bounds-slots-i
 bounds-slots-i c =
-        omega (arith, c.loop-i-test.true, c.loop-i.invariant.0, c.requires.0, c.requires.1)
+    omega (arith, c.loop-i-test.true, c.loop-i.invariant.0, c.requires.0, c.requires.1)
 
 pub returns-then-v-ne0 : goal.returns-then-v-ne0
 returns-then-v-ne0 c =
-            sym (c.loop-i.invariant.1 ∙ longer_holds _ c.loop-i.i c.loop-i-test.true c.if-v-ne0.true)
+    sym (c.loop-i.invariant.1 ∙ longer_holds _ c.loop-i.i c.loop-i-test.true c.if-v-ne0.true)
 
 pub loop-i-smaller : goal.loop-i-smaller
 loop-i-smaller c = omega (arith, c.loop-i-test.true)
 
 pub loop-i-preserved : goal.loop-i-preserved
 loop-i-preserved c =
-            (omega (arith, c.loop-i.invariant.0), c.loop-i.invariant.1 ∙ longer_empty _ c.loop-i.i c.loop-i-test.true c.if-v-ne0.false)
+    (omega (arith, c.loop-i.invariant.0), c.loop-i.invariant.1 ∙ longer_empty _ c.loop-i.i c.loop-i-test.true c.if-v-ne0.false)
 
 pub returns : goal.returns
 returns c = sym (c.loop-i.invariant.1 ∙ none-shorter _ c.loop-i.i c.loop-i-test.false)

@@ -11,38 +11,38 @@ use Rattle.log_freeze.proofs.note_all.Goals as goal
 
 pub loop-at-init : goal.loop-at-init
 loop-at-init c =
-        (begun _ _ _ c.requires.0 c.requires.1, ap length c.requires.0 ∙ length-replicate {A = ℕ} slot_count 0)
+    (begun _ _ _ c.requires.0 c.requires.1, ap length c.requires.0 ∙ length-replicate {A = ℕ} slot_count 0)
 
 pub read_at-requires : goal.read_at-requires
 read_at-requires c = (c.all_rows-rows.ensures, c.loop-at-test.true)
 
 pub shape_of-slots-in-Refused : goal.shape_of-slots-in-Refused
 shape_of-slots-in-Refused c =
-            omega (arith, c.loop-at.invariant.1, ap length c.requires.0, length-replicate {A = ℕ} slot_count 0)
+    omega (arith, c.loop-at.invariant.1, ap length c.requires.0, length-replicate {A = ℕ} slot_count 0)
 
 pub returns-in-Refused : goal.returns-in-Refused
 returns-in-Refused c =
-            c.loop-at.invariant.0.checks ∙ subst (ReadAs _ c.loop-at.at) c.in-Refused.is c.read_at.ensures
+    c.loop-at.invariant.0.checks ∙ subst (ReadAs _ c.loop-at.at) c.in-Refused.is c.read_at.ensures
 
 pub overflow_add-end : goal.overflow_add-end
 overflow_add-end c =
     let bytes_in : AreBytes c.args.run.now = known_bytes c.args.run.now (λ i. omega (arith, c.type_inv.run i)) in
-    let it : ( let a = c.args in ReadAs a.run.now c.loop-at.at (Used c.in-Used.n)) = subst (ReadAs _ c.loop-at.at) c.in-Used.is c.read_at.ensures in
-    let places : ( let a = c.args in (3 ≤ c.in-Used.n) × (c.loop-at.at + c.in-Used.n ≤ length a.run.now)) = part_fits c.args.run.now bytes_in c.loop-at.at it.0 _ it.1 in
+    let it : (let a = c.args in ReadAs a.run.now c.loop-at.at (Used c.in-Used.n)) = subst (ReadAs _ c.loop-at.at) c.in-Used.is c.read_at.ensures in
+    let places : (let a = c.args in (3 ≤ c.in-Used.n) × (c.loop-at.at + c.in-Used.n ≤ length a.run.now)) = part_fits c.args.run.now bytes_in c.loop-at.at it.0 _ it.1 in
     omega (arith, places)
 
 pub slice_bounds-note-end : goal.slice_bounds-note-end
 slice_bounds-note-end c =
     let bytes_in : AreBytes c.args.run.now = known_bytes c.args.run.now (λ i. omega (arith, c.type_inv.run i)) in
-    let it : ( let a = c.args in ReadAs a.run.now c.loop-at.at (Used c.in-Used.n)) = subst (ReadAs _ c.loop-at.at) c.in-Used.is c.read_at.ensures in
-    let places : ( let a = c.args in (3 ≤ c.in-Used.n) × (c.loop-at.at + c.in-Used.n ≤ length a.run.now)) = part_fits c.args.run.now bytes_in c.loop-at.at it.0 _ it.1 in
+    let it : (let a = c.args in ReadAs a.run.now c.loop-at.at (Used c.in-Used.n)) = subst (ReadAs _ c.loop-at.at) c.in-Used.is c.read_at.ensures in
+    let places : (let a = c.args in (3 ≤ c.in-Used.n) × (c.loop-at.at + c.in-Used.n ≤ length a.run.now)) = part_fits c.args.run.now bytes_in c.loop-at.at it.0 _ it.1 in
     places.1
 
 pub note-requires : goal.note-requires
 note-requires c =
     let bytes_in : AreBytes c.args.run.now = known_bytes c.args.run.now (λ i. omega (arith, c.type_inv.run i)) in
-    let it : ( let a = c.args in ReadAs a.run.now c.loop-at.at (Used c.in-Used.n)) = subst (ReadAs _ c.loop-at.at) c.in-Used.is c.read_at.ensures in
-    let places : ( let a = c.args in (3 ≤ c.in-Used.n) × (c.loop-at.at + c.in-Used.n ≤ length a.run.now)) = part_fits c.args.run.now bytes_in c.loop-at.at it.0 _ it.1 in
+    let it : (let a = c.args in ReadAs a.run.now c.loop-at.at (Used c.in-Used.n)) = subst (ReadAs _ c.loop-at.at) c.in-Used.is c.read_at.ensures in
+    let places : (let a = c.args in (3 ≤ c.in-Used.n) × (c.loop-at.at + c.in-Used.n ≤ length a.run.now)) = part_fits c.args.run.now bytes_in c.loop-at.at it.0 _ it.1 in
     let head = part-head c.args.run.now bytes_in c.loop-at.at it.0 _ it.1 in
     let flag = part-flag c.args.run.now bytes_in c.loop-at.at it.0 _ it.1 in
     (head, flag, omega (arith, places))
@@ -50,14 +50,14 @@ note-requires c =
 pub loop-at-smaller : goal.loop-at-smaller
 loop-at-smaller c =
     let bytes_in : AreBytes c.args.run.now = known_bytes c.args.run.now (λ i. omega (arith, c.type_inv.run i)) in
-    let it : ( let a = c.args in ReadAs a.run.now c.loop-at.at (Used c.in-Used.n)) = subst (ReadAs _ c.loop-at.at) c.in-Used.is c.read_at.ensures in
-    let places : ( let a = c.args in (3 ≤ c.in-Used.n) × (c.loop-at.at + c.in-Used.n ≤ length a.run.now)) = part_fits c.args.run.now bytes_in c.loop-at.at it.0 _ it.1 in
+    let it : (let a = c.args in ReadAs a.run.now c.loop-at.at (Used c.in-Used.n)) = subst (ReadAs _ c.loop-at.at) c.in-Used.is c.read_at.ensures in
+    let places : (let a = c.args in (3 ≤ c.in-Used.n) × (c.loop-at.at + c.in-Used.n ≤ length a.run.now)) = part_fits c.args.run.now bytes_in c.loop-at.at it.0 _ it.1 in
     omega (arith, places)
 
 pub loop-at-preserved : goal.loop-at-preserved
 loop-at-preserved c =
     let bytes_in : AreBytes c.args.run.now = known_bytes c.args.run.now (λ i. omega (arith, c.type_inv.run i)) in
-    let it : ( let a = c.args in ReadAs a.run.now c.loop-at.at (Used c.in-Used.n)) = subst (ReadAs _ c.loop-at.at) c.in-Used.is c.read_at.ensures in
+    let it : (let a = c.args in ReadAs a.run.now c.loop-at.at (Used c.in-Used.n)) = subst (ReadAs _ c.loop-at.at) c.in-Used.is c.read_at.ensures in
     let a = c.args in
     let turn = turned a.run.now a.name.now c.requires.1 c.loop-at.at it.0 _ it.1 c.loop-at.slots c.loop-at.invariant.1 c.loop-at.invariant.0 it.2 in
     let same = part-noted a.run.now bytes_in c.loop-at.at it.0 _ it.1 a.name.now c.loop-at.slots in (

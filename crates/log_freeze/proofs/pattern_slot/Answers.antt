@@ -10,8 +10,8 @@ returns-then-not-same c = no_pattern _ _ _ c.same.ensures c.if-same.false c.same
 
 pub returns-then-scope-name : goal.returns-then-scope-name
 returns-then-scope-name c =
-            whole_name _ _ _ c.same.ensures c.if-same.false c.same-2.ensures c.if-not-same.false-raw c.if-scope-name.true
+    whole_name _ _ _ c.same.ensures c.if-same.false c.same-2.ensures c.if-not-same.false-raw c.if-scope-name.true
 
 pub returns : goal.returns
 returns c =
-            part-of_name _ _ _ c.same.ensures c.if-same.false c.same-2.ensures c.if-not-same.false-raw c.if-scope-name.false
+    part-of_name _ _ _ c.same.ensures c.if-same.false c.same-2.ensures c.if-not-same.false-raw c.if-scope-name.false

@@ -9,6 +9,6 @@ returns-then-not-begins_with c =
 
 pub returns : goal.returns
 returns c =
-        let a = c.args in
+    let a = c.args in
     some-slot a.e.now a.name.now c.value_at-s.ensures c.begins_with.ensures c.if-not-begins_with.false-raw
     c.value_at-p.ensures c.pattern_slot.ensures

@@ -11,7 +11,7 @@ returns-then-not-is_image c =
 
 pub entry-requires : goal.entry-requires
 entry-requires c =
-                    (image_is c.args.image.now c.args.image.now c.is_image.ensures c.if-not-is_image.false-raw, broker_query _ (ap length c.put.ensures))
+    (image_is c.args.image.now c.args.image.now c.is_image.ensures c.if-not-is_image.false-raw, broker_query _ (ap length c.put.ensures))
 
 pub returns : goal.returns
 returns c =

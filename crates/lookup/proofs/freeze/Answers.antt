@@ -15,11 +15,11 @@ returns-then-f-ne0 c =
 
 pub reals_end-end-requires : goal.reals_end-end-requires
 reals_end-end-requires c =
-            image_is c.args.image.now c.args.out.now c.is_image.ensures c.if-not-is_image.false-raw
+    image_is c.args.image.now c.args.out.now c.is_image.ensures c.if-not-is_image.false-raw
 
 pub emit_freeze-requires : goal.emit_freeze-requires
 emit_freeze-requires c =
-                (lent-entries _ c.reals_end-end.ensures, lent-kept _ c.reals_end-end.ensures, name_fits _ (sym c.if-f-ne0.false ∙ c.text_fault-f.ensures))
+    (lent-entries _ c.reals_end-end.ensures, lent-kept _ c.reals_end-end.ensures, name_fits _ (sym c.if-f-ne0.false ∙ c.text_fault-f.ensures))
 
 pub returns : goal.returns
 returns c =

@@ -15,11 +15,10 @@ returns-then-f-ne0 c =
     let the_whole = partition-refused c.args.image.now c.args.out.now c.is_image.ensures c.if-not-is_image.false-raw _ c.text_fault-f.ensures c.if-f-ne0.true _ in record { result_value = the_whole.0; out_after = the_whole.1 }
 
 pub entry-requires : goal.entry-requires
-entry-requires c =
-                        (
-      image_is c.args.image.now c.args.image.now c.is_image.ensures c.if-not-is_image.false-raw,
-      partition_query _ _ (name_fits _ (sym c.if-f-ne0.false ∙ c.text_fault-f.ensures)) (ap length c.put.ensures),
-    )
+entry-requires c = (
+  image_is c.args.image.now c.args.image.now c.is_image.ensures c.if-not-is_image.false-raw,
+  partition_query _ _ (name_fits _ (sym c.if-f-ne0.false ∙ c.text_fault-f.ensures)) (ap length c.put.ensures),
+)
 
 pub returns : goal.returns
 returns c =

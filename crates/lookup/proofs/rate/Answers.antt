@@ -11,10 +11,10 @@ rate_in-requires c = (lent-entries _ c.reals_end-end.ensures, c.requires.1)
 
 pub returns-in-Is : goal.returns-in-Is
 returns-in-Is c =
-                ap (λ x. rated_as (rated x)) (sym c.in-Is.is) ∙ rate_as c.args.image.now c.reals_end-end.ensures c.args.node.0
+    ap (λ x. rated_as (rated x)) (sym c.in-Is.is) ∙ rate_as c.args.image.now c.reals_end-end.ensures c.args.node.0
     c.args.name.now c.rate_in.result c.rate_in.ensures
 
 pub returns-in-None : goal.returns-in-None
 returns-in-None c =
-                ap (λ x. rated_as (rated x)) (sym c.in-None.is) ∙ rate_as c.args.image.now c.reals_end-end.ensures c.args.node.0
+    ap (λ x. rated_as (rated x)) (sym c.in-None.is) ∙ rate_as c.args.image.now c.reals_end-end.ensures c.args.node.0
     c.args.name.now c.rate_in.result c.rate_in.ensures

@@ -9,11 +9,11 @@ returns-then-not-is_image c =
 
 pub reals_end-end-requires : goal.reals_end-end-requires
 reals_end-end-requires c =
-        image_is c.args.image.now c.args.image.now c.is_image.ensures c.if-not-is_image.false-raw
+    image_is c.args.image.now c.args.image.now c.is_image.ensures c.if-not-is_image.false-raw
 
 pub emit_named-requires : goal.emit_named-requires
 emit_named-requires c =
-        (lent-entries _ c.reals_end-end.ensures, lent-kept _ c.reals_end-end.ensures)
+    (lent-entries _ c.reals_end-end.ensures, lent-kept _ c.reals_end-end.ensures)
 
 pub returns : goal.returns
 returns c =

@@ -25,7 +25,7 @@ returns-then-out-n c =
 
 pub reals_end-end-requires : goal.reals_end-end-requires
 reals_end-end-requires c =
-            image_is c.args.image.now c.args.list.now c.args.out.now c.is_image.ensures c.if-not-is_image.false-raw
+    image_is c.args.image.now c.args.list.now c.args.out.now c.is_image.ensures c.if-not-is_image.false-raw
 
 pub write_indexes-read-requires : goal.write_indexes-read-requires
 write_indexes-read-requires c =

@@ -7,7 +7,7 @@ use Rattle.lookup_freezes.proofs.choose.Goals as goal
 
 pub find-p-requires : goal.find-p-requires
 find-p-requires c =
-        (c.requires.0, freeze_query _ _ c.requires.2 (omega arith))
+    (c.requires.0, freeze_query _ _ c.requires.2 (omega arith))
 
 pub returns-then-p : goal.returns-then-p
 returns-then-p c =

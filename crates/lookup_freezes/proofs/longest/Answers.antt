@@ -36,7 +36,7 @@ overflow_add-end c = omega (arith, (place-within c.loop-best.invariant c.find-p.
 pub returns-then-n-name : goal.returns-then-n-name
 returns-then-n-name c =
     let bytes_in : AreBytes c.args.s.now = known_bytes c.args.s.now (λ i. omega (arith, c.type_inv.s i)) in
-    let best : ( let s = c.args.s.now in Chosen s (shorter (frozen_in s prefixed) c.args.name.now (suc c.loop-best.n)) c.if-at-end.best.at c.if-at-end.best.end) = let p = c.find-p.ensures in let keeps = c.requires.1 in ⊎_elim (λ w. climb_found c.loop-best.invariant p bytes_in keeps w.0.taken w.1) (λ w. climb_kept c.loop-best.invariant p bytes_in keeps w.0.left w.1) c.if-at-end.branch in
+    let best : (let s = c.args.s.now in Chosen s (shorter (frozen_in s prefixed) c.args.name.now (suc c.loop-best.n)) c.if-at-end.best.at c.if-at-end.best.end) = let p = c.find-p.ensures in let keeps = c.requires.1 in ⊎_elim (λ w. climb_found c.loop-best.invariant p bytes_in keeps w.0.taken w.1) (λ w. climb_kept c.loop-best.invariant p bytes_in keeps w.0.left w.1) c.if-at-end.branch in
     climb_end c.loop-best.invariant c.find-p.ensures bytes_in c.requires.1 best c.if-n-name.true
 
 pub overflow_add-n : goal.overflow_add-n
@@ -48,5 +48,5 @@ loop-best-smaller c = omega (arith, c.loop-best.invariant.within, c.if-n-name.fa
 pub loop-best-preserved : goal.loop-best-preserved
 loop-best-preserved c =
     let bytes_in : AreBytes c.args.s.now = known_bytes c.args.s.now (λ i. omega (arith, c.type_inv.s i)) in
-    let best : ( let s = c.args.s.now in Chosen s (shorter (frozen_in s prefixed) c.args.name.now (suc c.loop-best.n)) c.if-at-end.best.at c.if-at-end.best.end) = let p = c.find-p.ensures in let keeps = c.requires.1 in ⊎_elim (λ w. climb_found c.loop-best.invariant p bytes_in keeps w.0.taken w.1) (λ w. climb_kept c.loop-best.invariant p bytes_in keeps w.0.left w.1) c.if-at-end.branch in
+    let best : (let s = c.args.s.now in Chosen s (shorter (frozen_in s prefixed) c.args.name.now (suc c.loop-best.n)) c.if-at-end.best.at c.if-at-end.best.end) = let p = c.find-p.ensures in let keeps = c.requires.1 in ⊎_elim (λ w. climb_found c.loop-best.invariant p bytes_in keeps w.0.taken w.1) (λ w. climb_kept c.loop-best.invariant p bytes_in keeps w.0.left w.1) c.if-at-end.branch in
     climb_on c.loop-best.invariant c.find-p.ensures bytes_in c.requires.1 best c.if-n-name.false

@@ -25,7 +25,7 @@ overflow_add-n c = omega (arith, c.if-n-gt-MOST.false, c.wide.ensures, c.if-d-lt
 
 pub loop-i-preserved : goal.loop-i-preserved
 loop-i-preserved c =
-                spelt-more c.loop-i.invariant c.loop-i-test.true c.if-d-lt48.false c.if-d-gt57.false (ap (λ x. c.loop-i.n * 10 + x) c.wide.ensures)
+    spelt-more c.loop-i.invariant c.loop-i-test.true c.if-d-lt48.false c.if-d-gt57.false (ap (λ x. c.loop-i.n * 10 + x) c.wide.ensures)
 
 pub returns-then-n-lt-LIMIT : goal.returns-then-n-lt-LIMIT
 returns-then-n-lt-LIMIT c = is_end c.loop-i.invariant c.loop-i-test.false c.if-n-lt-LIMIT.true

@@ -13,8 +13,8 @@ returns-then-v-eq43 c = plus_rate _ (omega (arith, c.if-v-eq0.false)) c.if-v-eq4
 
 pub returns-then-v-eq45 : goal.returns-then-v-eq45
 returns-then-v-eq45 c =
-        ap rated c.unless_negative.ensures ∙ minus_rate _ (omega (arith, c.if-v-eq0.false)) c.if-v-eq45.true c.magnitude_from-then-v-eq45.result c.magnitude_from-then-v-eq45.ensures
+    ap rated c.unless_negative.ensures ∙ minus_rate _ (omega (arith, c.if-v-eq0.false)) c.if-v-eq45.true c.magnitude_from-then-v-eq45.result c.magnitude_from-then-v-eq45.ensures
 
 pub returns : goal.returns
 returns c =
-            plain_rate _ (omega (arith, c.if-v-eq0.false)) c.if-v-eq43.false c.if-v-eq45.false c.magnitude_from-2.result c.magnitude_from-2.ensures
+    plain_rate _ (omega (arith, c.if-v-eq0.false)) c.if-v-eq43.false c.if-v-eq45.false c.magnitude_from-2.result c.magnitude_from-2.ensures

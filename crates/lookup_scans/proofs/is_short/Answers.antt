@@ -21,10 +21,10 @@ value_at-adding-requires c = headed _ c.requires
 
 pub outside_in-requires : goal.outside_in-requires
 outside_in-requires c =
-            let i = c.requires in
+    let i = c.requires in
     (replicas_few _ i c.if-e-ne-PARTITION.false c.value_at-replicas.ensures, adding_few _ i c.if-e-ne-PARTITION.false c.value_at-adding.ensures)
 
 pub returns : goal.returns
 returns c =
-            short-told _ c.requires c.if-e-ne-PARTITION.false c.value_at-replicas.ensures c.value_at-isr.ensures c.value_at-adding.ensures
+    short-told _ c.requires c.if-e-ne-PARTITION.false c.value_at-replicas.ensures c.value_at-isr.ensures c.value_at-adding.ensures
     c.outside_in.ensures

@@ -7,15 +7,15 @@ use Rattle.lookup_throttles.proofs.default_rate.Goals as goal
 
 pub overflow_add-end : goal.overflow_add-end
 overflow_add-end c =
-        omega (arith, part_in c.config_at.result c.config_at.ensures.1 c.in-Part.is)
+    omega (arith, part_in c.config_at.result c.config_at.ensures.1 c.in-Part.is)
 
 pub slice_bounds-rate_of-end : goal.slice_bounds-rate_of-end
 slice_bounds-rate_of-end c =
-        omega (arith, part_in c.config_at.result c.config_at.ensures.1 c.in-Part.is)
+    omega (arith, part_in c.config_at.result c.config_at.ensures.1 c.in-Part.is)
 
 pub returns-in-Part : goal.returns-in-Part
 returns-in-Part c =
-                value_rate c.args.s.now c.config_at.ensures.0 c.in-Part.is c.rate_of.ensures
+    value_rate c.args.s.now c.config_at.ensures.0 c.in-Part.is c.rate_of.ensures
 
 pub returns-in-Missing : goal.returns-in-Missing
 returns-in-Missing c = ap rate_by (no_value c.args.s.now c.config_at.ensures.0 c.in-Missing.is)

@@ -11,15 +11,15 @@ returns-then-not-ordered c =
 
 pub returns-in-Less : goal.returns-in-Less
 returns-in-Less c =
-        let a = c.args in
+    let a = c.args in
     rw (by_order a.ordered (is_below (compare_bytes a.v.now a.prior.now)) c.if-not-ordered.false-raw, ← c.compare.ensures, c.in-Less.is) refl
 
 pub returns-in-Equal : goal.returns-in-Equal
 returns-in-Equal c =
-        let a = c.args in
+    let a = c.args in
     rw (by_order a.ordered (is_below (compare_bytes a.v.now a.prior.now)) c.if-not-ordered.false-raw, ← c.compare.ensures, c.in-Equal.is) refl
 
 pub returns-in-Greater : goal.returns-in-Greater
 returns-in-Greater c =
-        let a = c.args in
+    let a = c.args in
     rw (by_order a.ordered (is_below (compare_bytes a.v.now a.prior.now)) c.if-not-ordered.false-raw, ← c.compare.ensures, c.in-Greater.is) refl

@@ -7,12 +7,12 @@ returns-then-not-is_text c = fault_text _ _ _ c.is_text.ensures c.if-not-is_text
 
 pub returns-then-is_out_of_order : goal.returns-then-is_out_of_order
 returns-then-is_out_of_order c =
-            fault-below _ _ _ c.is_text.ensures c.if-not-is_text.false-raw c.is_out_of_order.ensures c.if-is_out_of_order.true
+    fault-below _ _ _ c.is_text.ensures c.if-not-is_text.false-raw c.is_out_of_order.ensures c.if-is_out_of_order.true
 
 pub returns-then-v-gt-NAME_LIMIT : goal.returns-then-v-gt-NAME_LIMIT
 returns-then-v-gt-NAME_LIMIT c =
-                fault_long _ _ _ c.is_text.ensures c.if-not-is_text.false-raw c.is_out_of_order.ensures c.if-is_out_of_order.false c.if-v-gt-NAME_LIMIT.true
+    fault_long _ _ _ c.is_text.ensures c.if-not-is_text.false-raw c.is_out_of_order.ensures c.if-is_out_of_order.false c.if-v-gt-NAME_LIMIT.true
 
 pub returns : goal.returns
 returns c =
-                fault-none _ _ _ c.is_text.ensures c.if-not-is_text.false-raw c.is_out_of_order.ensures c.if-is_out_of_order.false c.if-v-gt-NAME_LIMIT.false
+    fault-none _ _ _ c.is_text.ensures c.if-not-is_text.false-raw c.is_out_of_order.ensures c.if-is_out_of_order.false c.if-v-gt-NAME_LIMIT.false

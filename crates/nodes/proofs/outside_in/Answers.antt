@@ -8,7 +8,7 @@ use Rattle.nodes.proofs.outside_in.Goals as goal
 
 pub returns-then-w-eq0 : goal.returns-then-w-eq0
 returns-then-w-eq0 c =
-        all-outside c.args.v.now c.args.w.now c.if-w-eq0.true
+    all-outside c.args.v.now c.args.w.now c.if-w-eq0.true
 
 pub load-count-requires : goal.load-count-requires
 load-count-requires c = c.requires.0

@@ -14,6 +14,6 @@ returns-in-Used c =
 
 pub returns-in-Refused : goal.returns-in-Refused
 returns-in-Refused c =
-        let n = c.in-Refused.number in
+    let n = c.in-Refused.number in
     let whole : n * 4294967296 ≡ n * 4294967296 + 0 = omega arith in
     c.alone.ensures ∙ whole ∙ ap (λ a. packed (replied a)) (sym c.in-Refused.is)

@@ -21,13 +21,13 @@ truncating_f64_to_i64-n-requires c =
 pub returns-then-not-nearest_i64_to_f64-value : goal.returns-then-not-nearest_i64_to_f64-value
 unfolding of_bits neg
 returns-then-not-nearest_i64_to_f64-value c =
-            let n = c.truncating_f64_to_i64-n in
+    let n = c.truncating_f64_to_i64-n in
     let z = to_z-of_z w64 n.result (record { sfits = n.type_inv }) ∙ n.ensures in
     other _ c.if-not-value.false-raw c.if-not-value-2.false-raw _ z _ c.nearest_i64_to_f64.ensures c.if-not-nearest_i64_to_f64-value.true-raw
 
 pub returns : goal.returns
 unfolding of_bits neg
 returns c =
-            let n = c.truncating_f64_to_i64-n in
+    let n = c.truncating_f64_to_i64-n in
     let z = to_z-of_z w64 n.result (record { sfits = n.type_inv }) ∙ n.ensures in
     same _ c.if-not-value.false-raw c.if-not-value-2.false-raw _ z _ c.nearest_i64_to_f64.ensures c.if-not-nearest_i64_to_f64-value.false-raw

@@ -16,9 +16,9 @@ returns-then-not-value c = below_range _ c.if-not-quota.false c.if-quota-eq-MINU
 pub returns-then-not-value-2 : goal.returns-then-not-value-2
 unfolding of_bits neg
 returns-then-not-value-2 c =
-        above_range _ c.if-not-quota.false c.if-quota-eq-MINUS_ZERO.false c.if-not-value.false-raw c.if-not-value-2.true-raw
+    above_range _ c.if-not-quota.false c.if-quota-eq-MINUS_ZERO.false c.if-not-value.false-raw c.if-not-value-2.true-raw
 
 pub returns : goal.returns
 unfolding of_bits neg
 returns c =
-        in_range _ c.if-not-quota.false c.if-quota-eq-MINUS_ZERO.false c.if-not-value.false-raw c.if-not-value-2.false-raw _ c.exactly.ensures
+    in_range _ c.if-not-quota.false c.if-quota-eq-MINUS_ZERO.false c.if-not-value.false-raw c.if-not-value-2.false-raw _ c.exactly.ensures

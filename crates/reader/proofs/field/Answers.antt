@@ -9,5 +9,5 @@ slice_bounds-find-end c = sym (length-take-le c.args.from.to c.args.s.now c.requ
 
 pub returns : goal.returns
 returns c =
-        let a = c.args in
+    let a = c.args in
     rw c.find.ensures (place-held a.s.now a.tag a.from.to c.requires.1 a.from.at)

@@ -37,7 +37,7 @@ returns-then-number-ne0 c =
 
 pub returns-in-Refused : goal.returns-in-Refused
 returns-in-Refused c =
-                stands_unread c.args.image.now c.args.offset c.args.run.now c.if-run-eq0.false
+    stands_unread c.args.image.now c.args.offset c.args.run.now c.if-run-eq0.false
     (ap replied (sym c.in-Refused.is) ∙ c.read_logged.ensures)
 
 pub returns-else-number-ne0 : goal.returns-else-number-ne0

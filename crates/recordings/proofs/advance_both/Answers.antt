@@ -41,8 +41,7 @@ apply_later-requires c =
 pub returns-then-apply_later-ne0 : goal.returns-then-apply_later-ne0
 returns-then-apply_later-ne0 c =
     let bytes_in : AreBytes c.args.one.now = known_bytes c.args.one.now (λ i. omega (arith, c.type_inv.one i)) in
-    let used : accepted (c.in-Used.n ∷ []) ≡ got_reply (read logged c.args.one.now) = ap replied (sym c.in-Used.is) ∙ c.read_logged.ensures in
-    (
+    let used : accepted (c.in-Used.n ∷ []) ≡ got_reply (read logged c.args.one.now) = ap replied (sym c.in-Used.is) ∙ c.read_logged.ensures in (
       stays_put c.args.first.now c.args.offset c.requires.0 (omega (arith, c.ranges)) c.args.one.now bytes_in used
           (c.apply_later.ensures.result_value, c.apply_later.ensures.image_after) c.if-apply_later-ne0.true,
       c.requires.1,
@@ -50,7 +49,7 @@ returns-then-apply_later-ne0 c =
 
 pub copy-requires : goal.copy-requires
 copy-requires c =
-            omega (arith, c.apply_later.auto, ap length c.requires.1)
+    omega (arith, c.apply_later.auto, ap length c.requires.1)
 
 pub returns-else-apply_later-ne0 : goal.returns-else-apply_later-ne0
 returns-else-apply_later-ne0 c =

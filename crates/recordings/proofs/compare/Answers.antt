@@ -18,17 +18,17 @@ returns-then-n-second c =
 
 pub slice_bounds-spare-end : goal.slice_bounds-spare-end
 slice_bounds-spare-end c =
-                        let a = c.args in
+    let a = c.args in
     most a.first.now a.second.now a.one.now a.other.now c.is_capacity.ensures c.if-not-is_capacity.false-raw
 
 pub slice_bounds-run-end : goal.slice_bounds-run-end
 slice_bounds-run-end c =
-                        let a = c.args in
+    let a = c.args in
     sym (length-take-le _ _ (most a.first.now a.second.now a.one.now a.other.now c.is_capacity.ensures c.if-not-is_capacity.false-raw))
 
 pub run-requires : goal.run-requires
 run-requires c =
-                        let a = c.args in
+    let a = c.args in
     let f = both_fresh a.first.now a.second.now a.one.now a.other.now c.is_capacity.ensures c.if-not-is_capacity.false-raw c.if-n-second.false c.open.ensures.b_after c.open-2.ensures.b_after in
     (f.0, f.1, length-take-le _ _ (most a.first.now a.second.now a.one.now a.other.now c.is_capacity.ensures c.if-not-is_capacity.false-raw) ∙ sym f.2)
 

@@ -27,12 +27,12 @@ slice_bounds-turn_both-end-in-loop-n c = omega (arith, c.loop-n.invariant.0.insi
 
 pub turn_both-requires : goal.turn_both-requires
 turn_both-requires c =
-            let i = c.loop-n.invariant in
+    let i = c.loop-n.invariant in
     (i.0.sound-first, i.0.sound_second, i.0.long_second ∙ sym i.0.long_first, i.1 ∙ c.requires.2 ∙ sym i.0.long_first, i.0.known)
 
 pub overflow_add-k : goal.overflow_add-k
 overflow_add-k c =
-                    let a = c.args in
+    let a = c.args in
     let i = c.loop-n.invariant in
     let turn = c.turn_both in
     let p = turn_places _ a.one.now a.other.now _ _ _ _ _ _ i.0 turn.new.first turn.new.second _ turn.ensures c.in-On.is in
@@ -40,7 +40,7 @@ overflow_add-k c =
 
 pub overflow_add-at : goal.overflow_add-at
 overflow_add-at c =
-                    let a = c.args in
+    let a = c.args in
     let i = c.loop-n.invariant in
     let turn = c.turn_both in
     let p = turn_places _ a.one.now a.other.now _ _ _ _ _ _ i.0 turn.new.first turn.new.second _ turn.ensures c.in-On.is in
@@ -48,7 +48,7 @@ overflow_add-at c =
 
 pub overflow_add-to : goal.overflow_add-to
 overflow_add-to c =
-                    let a = c.args in
+    let a = c.args in
     let i = c.loop-n.invariant in
     let turn = c.turn_both in
     let p = turn_places _ a.one.now a.other.now _ _ _ _ _ _ i.0 turn.new.first turn.new.second _ turn.ensures c.in-On.is in
@@ -56,7 +56,7 @@ overflow_add-to c =
 
 pub loop-n-smaller : goal.loop-n-smaller
 loop-n-smaller c =
-                    let a = c.args in
+    let a = c.args in
     let i = c.loop-n.invariant in
     let turn = c.turn_both in
     let p = turn_places _ a.one.now a.other.now _ _ _ _ _ _ i.0 turn.new.first turn.new.second _ turn.ensures c.in-On.is in
@@ -64,7 +64,7 @@ loop-n-smaller c =
 
 pub loop-n-preserved : goal.loop-n-preserved
 loop-n-preserved c =
-                    let a = c.args in
+    let a = c.args in
     let i = c.loop-n.invariant in
     let turn = c.turn_both in (
       turned _ a.one.now a.other.now _ _ _ _ _ _ i.0 turn.new.first turn.new.second _ turn.ensures c.in-On.is,
@@ -73,15 +73,15 @@ loop-n-preserved c =
 
 pub shape_of-first-in-Parted : goal.shape_of-first-in-Parted
 shape_of-first-in-Parted c =
-                omega (arith, c.turn_both.auto, c.loop-n.invariant.0.long_first, c.loop-n.invariant.0.long_second, c.loop-n.invariant.1, ap length c.requires.1)
+    omega (arith, c.turn_both.auto, c.loop-n.invariant.0.long_first, c.loop-n.invariant.0.long_second, c.loop-n.invariant.1, ap length c.requires.1)
 
 pub shape_of-second-in-Parted : goal.shape_of-second-in-Parted
 shape_of-second-in-Parted c =
-                omega (arith, c.turn_both.auto, c.loop-n.invariant.0.long_first, c.loop-n.invariant.0.long_second, c.loop-n.invariant.1, ap length c.requires.1)
+    omega (arith, c.turn_both.auto, c.loop-n.invariant.0.long_first, c.loop-n.invariant.0.long_second, c.loop-n.invariant.1, ap length c.requires.1)
 
 pub shape_of-spare-in-Parted : goal.shape_of-spare-in-Parted
 shape_of-spare-in-Parted c =
-                omega (arith, c.turn_both.auto, c.loop-n.invariant.0.long_first, c.loop-n.invariant.0.long_second, c.loop-n.invariant.1, ap length c.requires.1)
+    omega (arith, c.turn_both.auto, c.loop-n.invariant.0.long_first, c.loop-n.invariant.0.long_second, c.loop-n.invariant.1, ap length c.requires.1)
 
 pub returns-in-Parted : goal.returns-in-Parted
 returns-in-Parted c =
@@ -92,15 +92,15 @@ returns-in-Parted c =
 
 pub shape_of-first-in-Agree : goal.shape_of-first-in-Agree
 shape_of-first-in-Agree c =
-                omega (arith, c.turn_both.auto, c.loop-n.invariant.0.long_first, c.loop-n.invariant.0.long_second, c.loop-n.invariant.1, ap length c.requires.1)
+    omega (arith, c.turn_both.auto, c.loop-n.invariant.0.long_first, c.loop-n.invariant.0.long_second, c.loop-n.invariant.1, ap length c.requires.1)
 
 pub shape_of-second-in-Agree : goal.shape_of-second-in-Agree
 shape_of-second-in-Agree c =
-                omega (arith, c.turn_both.auto, c.loop-n.invariant.0.long_first, c.loop-n.invariant.0.long_second, c.loop-n.invariant.1, ap length c.requires.1)
+    omega (arith, c.turn_both.auto, c.loop-n.invariant.0.long_first, c.loop-n.invariant.0.long_second, c.loop-n.invariant.1, ap length c.requires.1)
 
 pub shape_of-spare-in-Agree : goal.shape_of-spare-in-Agree
 shape_of-spare-in-Agree c =
-                omega (arith, c.turn_both.auto, c.loop-n.invariant.0.long_first, c.loop-n.invariant.0.long_second, c.loop-n.invariant.1, ap length c.requires.1)
+    omega (arith, c.turn_both.auto, c.loop-n.invariant.0.long_first, c.loop-n.invariant.0.long_second, c.loop-n.invariant.1, ap length c.requires.1)
 
 pub returns-in-Agree : goal.returns-in-Agree
 returns-in-Agree c =

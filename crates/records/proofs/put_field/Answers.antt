@@ -4,4 +4,4 @@ use Rattle.records.proofs.put_field.Goals as goal
 
 pub returns : goal.returns
 returns c =
-            let a = c.args in field-written a.out.now a.at a.tag a.v.now c.requires c.put_head.ensures c.copy.ensures
+    let a = c.args in field-written a.out.now a.at a.tag a.v.now c.requires c.put_head.ensures c.copy.ensures

@@ -5,7 +5,7 @@ use Rattle.records.proofs.put_fields.Goals as goal
 
 pub loop-i-init : goal.loop-i-init
 loop-i-init c =
-        (refl, omega arith, record { within = omega arith; whole = c.requires.whole; fits = c.requires.values_in_bounds }, refl)
+    (refl, omega arith, record { within = omega arith; whole = c.requires.whole; fits = c.requires.values_in_bounds }, refl)
 
 pub offset_bounds-lengths-i : goal.offset_bounds-lengths-i
 offset_bounds-lengths-i c = omega (arith, length-there c.loop-i.invariant.2 c.loop-i-test.true)
@@ -27,11 +27,11 @@ put_field-requires c = field_fits c.loop-i.invariant.2 c.loop-i-test.true
 
 pub overflow_add-to : goal.overflow_add-to
 overflow_add-to c =
-                omega (arith, rest_fits c.loop-i.invariant.2 c.loop-i-test.true, c.well_formed)
+    omega (arith, rest_fits c.loop-i.invariant.2 c.loop-i-test.true, c.well_formed)
 
 pub overflow_add-to-in-loop-i : goal.overflow_add-to-in-loop-i
 overflow_add-to-in-loop-i c =
-                omega (arith, rest_fits c.loop-i.invariant.2 c.loop-i-test.true, c.well_formed)
+    omega (arith, rest_fits c.loop-i.invariant.2 c.loop-i-test.true, c.well_formed)
 
 pub overflow_add-i : goal.overflow_add-i
 overflow_add-i c = omega (arith, c.well_formed)

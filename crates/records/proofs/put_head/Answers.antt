@@ -13,4 +13,4 @@ shape_of-out c = let a = c.args in omega (arith, c.put.auto.s, length-set a.out.
 
 pub returns : goal.returns
 returns c =
-        let a = c.args in c.put.ensures ∙ head-written a.out.now a.at a.first a.len c.requires
+    let a = c.args in c.put.ensures ∙ head-written a.out.now a.at a.first a.len c.requires

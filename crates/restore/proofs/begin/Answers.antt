@@ -33,7 +33,7 @@ number_at-requires c =
 
 pub returns-in-Refused : goal.returns-in-Refused
 returns-in-Refused c =
-        begun_unread _ c.if-input-eq0.false (ap replied (sym c.in-Refused.is) ∙ c.read.ensures.result_value)
+    begun_unread _ c.if-input-eq0.false (ap replied (sym c.in-Refused.is) ∙ c.read.ensures.result_value)
 
 pub returns-else-input-ne-LOG_OFFSET : goal.returns-else-input-ne-LOG_OFFSET
 returns-else-input-ne-LOG_OFFSET c =

@@ -5,17 +5,17 @@ use Rattle.restore.proofs.lay_whole.Goals as goal
 
 pub lay-requires : goal.lay-requires
 lay-requires c =
-        let a = c.args in
+    let a = c.args in
     done_lays (length a.image.now) a.input.now _ _ c.run.ensures c.in-Done.is
 
 pub returns-in-Done : goal.returns-in-Done
 returns-in-Done c =
-                whole-laid (length c.args.image.now) c.args.input.now _ _ c.run.ensures c.requires.0 c.in-Done.is c.lay.ensures
+    whole-laid (length c.args.image.now) c.args.input.now _ _ c.run.ensures c.requires.0 c.in-Done.is c.lay.ensures
 
 pub returns-in-Unread : goal.returns-in-Unread
 returns-in-Unread c =
-            whole-read (length c.args.image.now) c.args.input.now _ _ c.run.ensures c.requires.0 c.in-Unread.is
+    whole-read (length c.args.image.now) c.args.input.now _ _ c.run.ensures c.requires.0 c.in-Unread.is
 
 pub returns-in-Refused : goal.returns-in-Refused
 returns-in-Refused c =
-            whole-applied (length c.args.image.now) c.args.input.now _ _ c.run.ensures c.requires.0 c.in-Refused.is
+    whole-applied (length c.args.image.now) c.args.input.now _ _ c.run.ensures c.requires.0 c.in-Refused.is

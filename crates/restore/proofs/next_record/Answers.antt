@@ -28,7 +28,7 @@ step-requires c =
 
 pub returns-in-Refused : goal.returns-in-Refused
 returns-in-Refused c =
-            let a = c.args in next_unread a.w.now a.state a.capacity a.input.now (subst (InsideAs a.input.now) c.in-Refused.is c.read_inside.ensures)
+    let a = c.args in next_unread a.w.now a.state a.capacity a.input.now (subst (InsideAs a.input.now) c.in-Refused.is c.read_inside.ensures)
 
 pub returns-in-Refused-step : goal.returns-in-Refused-step
 returns-in-Refused-step c =

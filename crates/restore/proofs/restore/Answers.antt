@@ -12,7 +12,7 @@ returns-then-not-is_capacity c =
 
 pub rebuild-requires : goal.rebuild-requires
 rebuild-requires c =
-            omega (arith, capacity-least (length c.args.image.now) (capacity-kept c.args.image.now c.args.input.now c.is_capacity.ensures c.if-not-is_capacity.false-raw c.args.image.now refl))
+    omega (arith, capacity-least (length c.args.image.now) (capacity-kept c.args.image.now c.args.input.now c.is_capacity.ensures c.if-not-is_capacity.false-raw c.args.image.now refl))
 
 pub returns-then-rebuild : goal.returns-then-rebuild
 returns-then-rebuild c =
@@ -20,11 +20,10 @@ returns-then-rebuild c =
     c.rebuild.ensures c.if-rebuild.true in record { result_value = the_whole.0; image_after = the_whole.1 }
 
 pub restore_each-requires : goal.restore_each-requires
-restore_each-requires c =
-                (
-      capacity-kept c.args.image.now c.args.input.now c.is_capacity.ensures c.if-not-is_capacity.false-raw c.rebuild.new.image c.rebuild.auto.image,
-      omega (arith, c.rebuild.auto.w),
-    )
+restore_each-requires c = (
+  capacity-kept c.args.image.now c.args.input.now c.is_capacity.ensures c.if-not-is_capacity.false-raw c.rebuild.new.image c.rebuild.auto.image,
+  omega (arith, c.rebuild.auto.w),
+)
 
 pub returns : goal.returns
 returns c =

@@ -6,30 +6,29 @@ use Rattle.restore.proofs.restore_each.Goals as goal
 
 pub run-requires : goal.run-requires
 run-requires c =
-        (c.requires.0, c.requires.1, omega arith, omega arith)
+    (c.requires.0, c.requires.1, omega arith, omega arith)
 
 pub lay-requires : goal.lay-requires
 lay-requires c =
-                done_lays (length c.args.image.now) c.args.input.now c.run.new.w _ c.run.ensures c.in-Done.is
+    done_lays (length c.args.image.now) c.args.input.now c.run.new.w _ c.run.ensures c.in-Done.is
 
 pub lay-requires-in-Unread : goal.lay-requires-in-Unread
 lay-requires-in-Unread c =
-                unread_lays (length c.args.image.now) c.args.input.now c.run.new.w _ c.run.ensures c.in-Unread.is
+    unread_lays (length c.args.image.now) c.args.input.now c.run.new.w _ c.run.ensures c.in-Unread.is
 
 pub slice_bounds-lay_whole-end-in-Refused-2 : goal.slice_bounds-lay_whole-end-in-Refused-2
 slice_bounds-lay_whole-end-in-Refused-2 c =
-                let k = refused-within (length c.args.image.now) c.args.input.now c.run.new.w _ c.run.ensures
+    let k = refused-within (length c.args.image.now) c.args.input.now c.run.new.w _ c.run.ensures
     c.in-Refused.is in simp length-take (omega arith)
 
 pub lay_whole-requires : goal.lay_whole-requires
-lay_whole-requires c =
-            (
-      refused-whole (length c.args.image.now) c.args.input.now c.run.new.w _ c.run.ensures c.in-Refused.is,
-      c.requires.0,
-      omega (arith, c.run.auto.w, c.requires.1),
-      omega (arith, c.run.auto.a),
-      omega (arith, c.run.auto.b),
-    )
+lay_whole-requires c = (
+  refused-whole (length c.args.image.now) c.args.input.now c.run.new.w _ c.run.ensures c.in-Refused.is,
+  c.requires.0,
+  omega (arith, c.run.auto.w, c.requires.1),
+  omega (arith, c.run.auto.a),
+  omega (arith, c.run.auto.b),
+)
 
 pub returns-in-Done : goal.returns-in-Done
 returns-in-Done c =

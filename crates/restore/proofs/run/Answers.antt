@@ -4,7 +4,7 @@ use Rattle.restore.proofs.run.Goals as goal
 
 pub run_from-requires : goal.run_from-requires
 run_from-requires c =
-                let a = c.args in (
+    let a = c.args in (
       reached-start a.capacity a.input.now a.w.now c.requires.0 c.begin.ensures c.in-At.is c.no_records-in-At.ensures,
       c.requires.1,
       c.requires.2,
@@ -13,5 +13,5 @@ run_from-requires c =
 
 pub returns-in-Refused : goal.returns-in-Refused
 returns-in-Refused c =
-                let a = c.args in
+    let a = c.args in
     ran_unbegun a.capacity a.input.now a.w.now c.requires.0 c.begin.ensures c.in-Refused.is c.no_records.ensures

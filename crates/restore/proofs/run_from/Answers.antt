@@ -19,7 +19,7 @@ slice_bounds-next_record-end c = omega (arith, c.loop-at.invariant.0.within)
 
 pub next_record-requires : goal.next_record-requires
 next_record-requires c =
-            let i = c.loop-at.invariant in
+    let i = c.loop-at.invariant in
     (i.0.holding, omega (arith, i.1, c.requires.1), omega (arith, i.2, c.requires.2), omega (arith, i.3, c.requires.3))
 
 pub overflow_add-at : goal.overflow_add-at
@@ -34,7 +34,7 @@ loop-at-smaller c =
 
 pub loop-at-preserved : goal.loop-at-preserved
 loop-at-preserved c =
-        let a = c.args in
+    let a = c.args in
     let next = c.next_record in (
       turned a.capacity a.input.now _ _ c.loop-at.state c.loop-at.invariant.0 next.new.w _ next.ensures c.in-Moved.is,
       omega (arith, c.loop-at.invariant.1, next.auto.w),
@@ -44,37 +44,37 @@ loop-at-preserved c =
 
 pub shape_of-w-in-Unread : goal.shape_of-w-in-Unread
 shape_of-w-in-Unread c =
-            omega (arith, c.loop-at.invariant.1, c.next_record.auto.w)
+    omega (arith, c.loop-at.invariant.1, c.next_record.auto.w)
 
 pub shape_of-a-in-Unread : goal.shape_of-a-in-Unread
 shape_of-a-in-Unread c =
-            omega (arith, c.loop-at.invariant.2, c.next_record.auto.a)
+    omega (arith, c.loop-at.invariant.2, c.next_record.auto.a)
 
 pub shape_of-b-in-Unread : goal.shape_of-b-in-Unread
 shape_of-b-in-Unread c =
-            omega (arith, c.loop-at.invariant.3, c.next_record.auto.b)
+    omega (arith, c.loop-at.invariant.3, c.next_record.auto.b)
 
 pub returns-in-Unread : goal.returns-in-Unread
 returns-in-Unread c =
-                let a = c.args in
+    let a = c.args in
     let next = c.next_record in
     ran_unread a.capacity a.input.now _ _ c.loop-at.state c.loop-at.invariant.0 next.new.w _ next.ensures c.loop-at-test.true c.in-Unread.is
 
 pub shape_of-w-in-Refused : goal.shape_of-w-in-Refused
 shape_of-w-in-Refused c =
-            omega (arith, c.loop-at.invariant.1, c.next_record.auto.w)
+    omega (arith, c.loop-at.invariant.1, c.next_record.auto.w)
 
 pub shape_of-a-in-Refused : goal.shape_of-a-in-Refused
 shape_of-a-in-Refused c =
-            omega (arith, c.loop-at.invariant.2, c.next_record.auto.a)
+    omega (arith, c.loop-at.invariant.2, c.next_record.auto.a)
 
 pub shape_of-b-in-Refused : goal.shape_of-b-in-Refused
 shape_of-b-in-Refused c =
-            omega (arith, c.loop-at.invariant.3, c.next_record.auto.b)
+    omega (arith, c.loop-at.invariant.3, c.next_record.auto.b)
 
 pub returns-in-Refused : goal.returns-in-Refused
 returns-in-Refused c =
-        let a = c.args in
+    let a = c.args in
     let next = c.next_record in
     ran_refused a.capacity a.input.now _ _ c.loop-at.state c.loop-at.invariant.0 next.new.w _ next.ensures c.in-Refused.is
 

@@ -55,8 +55,7 @@ slice_bounds-is_settled-end c =
 
 pub is_settled-requires : goal.is_settled-requires
 is_settled-requires c =
-    let bytes_in : AreBytes c.args.image.now = known_bytes c.args.image.now (λ i. omega (arith, c.type_inv.image i)) in
-    (
+    let bytes_in : AreBytes c.args.image.now = known_bytes c.args.image.now (λ i. omega (arith, c.type_inv.image i)) in (
       entries c.args.image.now bytes_in c.requires c.used_in-used.ensures.0 c.tail_start.ensures c.if-tail_start-used.false,
       ascends c.args.image.now bytes_in c.requires c.used_in-used.ensures.0 c.tail_start.ensures c.if-tail_start-used.false,
     )

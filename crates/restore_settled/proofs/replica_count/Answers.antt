@@ -10,5 +10,5 @@ use Rattle.restore_settled.proofs.replica_count.Goals as goal
 
 pub returns : goal.returns
 returns c =
-        let v = c.value_at-p.ensures in let n = part_length _ _ _ _ v.1 v.2 v.0 in
+    let v = c.value_at-p.ensures in let n = part_length _ _ _ _ v.1 v.2 v.0 in
     (let e : c.value_at-p.result.end - c.value_at-p.result.start ≡ length (value 4 (run_in c.args.e.now)) = omega arith in ap (λ x. x / 8) e)

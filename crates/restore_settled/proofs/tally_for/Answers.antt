@@ -7,5 +7,5 @@ use Rattle.restore_settled.proofs.tally_for.Goals as goal
 
 pub returns : goal.returns
 returns c =
-        let v = c.value_at-p.ensures in let e = lent_slice _ _ _ v.1 ∙ v.0 in
+    let v = c.value_at-p.ensures in let e = lent_slice _ _ _ v.1 ∙ v.0 in
     (counted_as e c.tally_of.ensures.0, factored_as e c.number_at.ensures c.tally_of.ensures.1)

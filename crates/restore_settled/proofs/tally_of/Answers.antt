@@ -9,7 +9,7 @@ use Rattle.restore_settled.proofs.tally_of.Goals as goal
 
 pub loop-start-init : goal.loop-start-init
 loop-start-init c =
-        (passed_start _ _ c.requires.0 c.requires.1, folded_start _ _ _)
+    (passed_start _ _ c.requires.0 c.requires.1, folded_start _ _ _)
 
 pub slice_bounds-beside-count : goal.slice_bounds-beside-count
 slice_bounds-beside-count c =
@@ -44,15 +44,14 @@ loop-start-smaller-in-Less c =
 pub loop-start-preserved-in-Less : goal.loop-start-preserved-in-Less
 loop-start-preserved-in-Less c =
     let bytes_in : AreBytes c.args.s.now = known_bytes c.args.s.now (λ i. omega (arith, c.type_inv.s i)) in
-    let entry : Stands c.args.s.now c.loop-start.c.at c.in-Entry.start c.in-Entry.end c.in-Entry.next = stands _ bytes_in _ c.loop-start.invariant.0.entries c.next.ensures c.in-Entry.is in
-    (
+    let entry : Stands c.args.s.now c.loop-start.c.at c.in-Entry.start c.in-Entry.end c.in-Entry.next = stands _ bytes_in _ c.loop-start.invariant.0.entries c.next.ensures c.in-Entry.is in (
       passed_less c.loop-start.invariant.0 entry c.beside.result c.beside.ensures c.in-Less.is,
       folded_less c.loop-start.invariant.1 entry c.beside.result c.beside.ensures c.in-Less.is,
     )
 
 pub overflow_add-count : goal.overflow_add-count
 overflow_add-count c =
-        omega (arith, c.loop-start.invariant.0.low, c.loop-start.invariant.0.most)
+    omega (arith, c.loop-start.invariant.0.low, c.loop-start.invariant.0.most)
 
 pub slice_bounds-replica_count-count : goal.slice_bounds-replica_count-count
 slice_bounds-replica_count-count c =
@@ -87,8 +86,7 @@ loop-start-smaller c =
 pub loop-start-preserved : goal.loop-start-preserved
 loop-start-preserved c =
     let bytes_in : AreBytes c.args.s.now = known_bytes c.args.s.now (λ i. omega (arith, c.type_inv.s i)) in
-    let entry : Stands c.args.s.now c.loop-start.c.at c.in-Entry.start c.in-Entry.end c.in-Entry.next = stands _ bytes_in _ c.loop-start.invariant.0.entries c.next.ensures c.in-Entry.is in
-    (
+    let entry : Stands c.args.s.now c.loop-start.c.at c.in-Entry.start c.in-Entry.end c.in-Entry.next = stands _ bytes_in _ c.loop-start.invariant.0.entries c.next.ensures c.in-Entry.is in (
       passed_equal c.loop-start.invariant.0 entry c.beside.result c.beside.ensures c.in-Equal.is,
       folded_equal c.loop-start.invariant.1 entry c.beside.result c.beside.ensures c.in-Equal.is _ c.replica_count-factor.ensures,
     )
@@ -96,8 +94,7 @@ loop-start-preserved c =
 pub returns-in-Greater : goal.returns-in-Greater
 returns-in-Greater c =
     let bytes_in : AreBytes c.args.s.now = known_bytes c.args.s.now (λ i. omega (arith, c.type_inv.s i)) in
-    let entry : Stands c.args.s.now c.loop-start.c.at c.in-Entry.start c.in-Entry.end c.in-Entry.next = stands _ bytes_in _ c.loop-start.invariant.0.entries c.next.ensures c.in-Entry.is in
-    (
+    let entry : Stands c.args.s.now c.loop-start.c.at c.in-Entry.start c.in-Entry.end c.in-Entry.next = stands _ bytes_in _ c.loop-start.invariant.0.entries c.next.ensures c.in-Entry.is in (
       passed_greater c.loop-start.invariant.0 entry c.beside.result c.beside.ensures c.in-Greater.is,
       folded_greater c.loop-start.invariant.1 entry c.beside.result c.beside.ensures c.in-Greater.is c.loop-start.invariant.0.ascends,
     )

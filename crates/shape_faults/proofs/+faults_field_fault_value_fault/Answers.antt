@@ -9,7 +9,7 @@ use Rattle.shape_faults.proofs.+faults_field_fault_value_fault.Goals as goal
 
 pub faults-loop-tag-init : goal.faults-loop-tag-init
 faults-loop-tag-init t c =
-        let p = c.requires in
+    let p = c.requires in
     let s = c.args.s.now in
     let e = c.begin-w.ensures in
     (p.2.0, p.2.1, begun_in s e, omega (arith, begun-count s e), on_begun _ _ s e _)
@@ -39,7 +39,7 @@ faults-loop-tag-smaller t c = let m = moved c.in-Field.is c.next.ensures.1 in om
 
 pub faults-loop-tag-preserved : goal.faults-loop-tag-preserved
 faults-loop-tag-preserved t c =
-                    let m = moved c.in-Field.is c.next.ensures.1 in
+    let m = moved c.in-Field.is c.next.ensures.1 in
     let q = passed-count _ _ _ _ c.walk_past-w.ensures.0 in (
       omega arith,
       omega arith,
@@ -62,7 +62,7 @@ faults-returns-in-End t c = c.end_fault.ensures ∙ on_done _ _ _ (ended _ c.nex
 
 pub field_fault-tag_fault-f-requires : goal.field_fault-tag_fault-f-requires
 field_fault-tag_fault-f-requires t c =
-        (c.requires.0, c.requires.1)
+    (c.requires.0, c.requires.1)
 
 pub field_fault-returns-then-f-ne0 : goal.field_fault-returns-then-f-ne0
 field_fault-returns-then-f-ne0 t c = field_tag _ _ _ _ _ c.tag_fault-f.ensures c.if-f-ne0.true
@@ -77,7 +77,7 @@ field_fault-row_at-row-requires t c =
 
 pub field_fault-value_fault-g-requires : goal.field_fault-value_fault-g-requires
 field_fault-value_fault-g-requires t c =
-        let p = c.requires in
+    let p = c.requires in
     let a = c.args in (
       omega arith,
       (
@@ -92,14 +92,14 @@ field_fault-value_fault-g-requires t c =
 
 pub field_fault-returns-then-g-ne0 : goal.field_fault-returns-then-g-ne0
 field_fault-returns-then-g-ne0 t c =
-                        let a = c.args in
+    let a = c.args in
     let k = prior_key_lem a.w a.tag a.s.now c.prior_of.result c.prior_of.ensures in
     field-value _ _ _ _ _ c.tag_fault-f.ensures c.if-f-ne0.false (row-there c.requires.1 _ _ c.tag_fault-f.ensures c.if-f-ne0.false)
     c.row_at-row.ensures k c.value_fault-g.ensures c.if-g-ne0.true
 
 pub field_fault-returns : goal.field_fault-returns
 field_fault-returns t c =
-                                let a = c.args in
+    let a = c.args in
     let k = prior_key_lem a.w a.tag a.s.now c.prior_of.result c.prior_of.ensures in
     field-count _ _ _ _ _ c.tag_fault-f.ensures c.if-f-ne0.false (row-there c.requires.1 _ _ c.tag_fault-f.ensures c.if-f-ne0.false)
     c.row_at-row.ensures k c.value_fault-g.ensures c.if-g-ne0.false c.many_in.ensures c.count_of.ensures c.count_fault.ensures
@@ -120,7 +120,7 @@ value_fault-leaf_fault-requires-then-form-lt-NESTED t c =
 
 pub value_fault-returns-then-form-lt-NESTED : goal.value_fault-returns-then-form-lt-NESTED
 value_fault-returns-then-form-lt-NESTED t c =
-            value_leaf _ _ _ _ c.form_in-form.ensures c.size_in-size.ensures c.if-inner.false c.if-form-lt-NESTED.true c.leaf_fault-then-form-lt-NESTED.ensures
+    value_leaf _ _ _ _ c.form_in-form.ensures c.size_in-size.ensures c.if-inner.false c.if-form-lt-NESTED.true c.leaf_fault-then-form-lt-NESTED.ensures
 
 pub value_fault-faults-requires : goal.value_fault-faults-requires
 value_fault-faults-requires t c =
@@ -131,5 +131,5 @@ value_fault-faults-requires t c =
 
 pub value_fault-returns : goal.value_fault-returns
 value_fault-returns t c =
-                let p = c.requires in
+    let p = c.requires in
     value-run _ _ _ _ c.form_in-form.ensures c.size_in-size.ensures p.1 c.if-inner.false c.if-form-lt-NESTED.false c.faults.ensures

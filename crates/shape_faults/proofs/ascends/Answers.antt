@@ -7,12 +7,12 @@ returns-then-start-end c = let a = c.args in above-none a.s.now a.prior a.v.now 
 
 pub returns-in-Less : goal.returns-in-Less
 returns-in-Less c =
-            above-some c.args.s.now c.args.prior c.args.v.now c.requires c.if-start-end.false c.compare.ensures c.in-Less.is
+    above-some c.args.s.now c.args.prior c.args.v.now c.requires c.if-start-end.false c.compare.ensures c.in-Less.is
 
 pub returns-in-Equal : goal.returns-in-Equal
 returns-in-Equal c =
-            above-some c.args.s.now c.args.prior c.args.v.now c.requires c.if-start-end.false c.compare.ensures c.in-Equal.is
+    above-some c.args.s.now c.args.prior c.args.v.now c.requires c.if-start-end.false c.compare.ensures c.in-Equal.is
 
 pub returns-in-Greater : goal.returns-in-Greater
 returns-in-Greater c =
-            above-some c.args.s.now c.args.prior c.args.v.now c.requires c.if-start-end.false c.compare.ensures c.in-Greater.is
+    above-some c.args.s.now c.args.prior c.args.v.now c.requires c.if-start-end.false c.compare.ensures c.in-Greater.is

@@ -7,8 +7,8 @@ returns-then-v-ne8 c = offset-length _ c.if-v-ne8.true
 
 pub returns-then-is_offset : goal.returns-then-is_offset
 returns-then-is_offset c =
-        offset_right _ c.if-v-ne8.false c.get.ensures.0 c.is_offset.ensures c.if-is_offset.true
+    offset_right _ c.if-v-ne8.false c.get.ensures.0 c.is_offset.ensures c.if-is_offset.true
 
 pub returns : goal.returns
 returns c =
-        offset_wrong _ c.if-v-ne8.false c.get.ensures.0 c.is_offset.ensures c.if-is_offset.false
+    offset_wrong _ c.if-v-ne8.false c.get.ensures.0 c.is_offset.ensures c.if-is_offset.false

@@ -7,8 +7,8 @@ returns-then-f-ne0 c = set_long _ _ c.list_fault-f.ensures c.if-f-ne0.true
 
 pub returns-then-apart_in : goal.returns-then-apart_in
 returns-then-apart_in c =
-        set_apart _ _ c.list_fault-f.ensures c.if-f-ne0.false c.apart_in.ensures c.if-apart_in.true
+    set_apart _ _ c.list_fault-f.ensures c.if-f-ne0.false c.apart_in.ensures c.if-apart_in.true
 
 pub returns : goal.returns
 returns c =
-        set_repeated _ _ c.list_fault-f.ensures c.if-f-ne0.false c.apart_in.ensures c.if-apart_in.false
+    set_repeated _ _ c.list_fault-f.ensures c.if-f-ne0.false c.apart_in.ensures c.if-apart_in.false

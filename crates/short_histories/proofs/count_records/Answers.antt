@@ -31,11 +31,11 @@ read_from-requires c = c.requires
 
 pub returns-in-Refused : goal.returns-in-Refused
 returns-in-Refused c =
-                    stopped c.args.s.now c.loop-at.invariant c.if-n-eq-RECORD_LIMIT.false c.loop-at-test.true (ap replied (sym c.in-Refused.is) ∙ c.read_from.ensures)
+    stopped c.args.s.now c.loop-at.invariant c.if-n-eq-RECORD_LIMIT.false c.loop-at-test.true (ap replied (sym c.in-Refused.is) ∙ c.read_from.ensures)
 
 pub overflow_add-at : goal.overflow_add-at
 overflow_add-at c =
-    let accepts : ( let s = c.args.s.now in accepted (c.in-Used.used ∷ []) ≡ got_reply (read framed (take (length s - c.loop-at.at) (drop c.loop-at.at s)))) = ap replied (sym c.in-Used.is) ∙ c.read_from.ensures in
+    let accepts : (let s = c.args.s.now in accepted (c.in-Used.used ∷ []) ≡ got_reply (read framed (take (length s - c.loop-at.at) (drop c.loop-at.at s)))) = ap replied (sym c.in-Used.is) ∙ c.read_from.ensures in
     omega (arith, turn_places c.args.s.now c.loop-at.invariant c.if-n-eq-RECORD_LIMIT.false accepts)
 
 pub overflow_add-n : goal.overflow_add-n
@@ -43,12 +43,12 @@ overflow_add-n c = omega (arith, c.loop-at.invariant.few)
 
 pub loop-at-smaller : goal.loop-at-smaller
 loop-at-smaller c =
-    let accepts : ( let s = c.args.s.now in accepted (c.in-Used.used ∷ []) ≡ got_reply (read framed (take (length s - c.loop-at.at) (drop c.loop-at.at s)))) = ap replied (sym c.in-Used.is) ∙ c.read_from.ensures in
+    let accepts : (let s = c.args.s.now in accepted (c.in-Used.used ∷ []) ≡ got_reply (read framed (take (length s - c.loop-at.at) (drop c.loop-at.at s)))) = ap replied (sym c.in-Used.is) ∙ c.read_from.ensures in
     omega (arith, turn_places c.args.s.now c.loop-at.invariant c.if-n-eq-RECORD_LIMIT.false accepts)
 
 pub loop-at-preserved : goal.loop-at-preserved
 loop-at-preserved c =
-    let accepts : ( let s = c.args.s.now in accepted (c.in-Used.used ∷ []) ≡ got_reply (read framed (take (length s - c.loop-at.at) (drop c.loop-at.at s)))) = ap replied (sym c.in-Used.is) ∙ c.read_from.ensures in
+    let accepts : (let s = c.args.s.now in accepted (c.in-Used.used ∷ []) ≡ got_reply (read framed (take (length s - c.loop-at.at) (drop c.loop-at.at s)))) = ap replied (sym c.in-Used.is) ∙ c.read_from.ensures in
     turned c.args.s.now c.loop-at.invariant c.if-n-eq-RECORD_LIMIT.false accepts
 
 pub returns : goal.returns

@@ -14,7 +14,7 @@ returns-then-out-size c =
 
 pub put_history-requires : goal.put_history-requires
 put_history-requires c =
-        let p = c.requires in
+    let p = c.requires in
     (p.0, p.1, p.2, p.3, p.4, omega (arith, c.if-out-size.false, c.history_size-size.ensures))
 
 pub returns : goal.returns

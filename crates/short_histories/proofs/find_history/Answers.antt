@@ -10,7 +10,7 @@ power-p-requires c = (c.requires, c.loop-len-test.true)
 
 pub returns-then-i-p : goal.returns-then-i-p
 returns-then-i-p c =
-            of_length c.args.n c.args.number c.loop-len.invariant c.loop-len-test.true c.power-p.ensures c.if-i-p.true
+    of_length c.args.n c.args.number c.loop-len.invariant c.loop-len-test.true c.power-p.ensures c.if-i-p.true
 
 pub overflow_add-len : goal.overflow_add-len
 overflow_add-len c = omega (arith, c.loop-len-test.true)
@@ -20,7 +20,7 @@ loop-len-smaller c = omega (arith, c.loop-len-test.true)
 
 pub loop-len-preserved : goal.loop-len-preserved
 loop-len-preserved c =
-            longer c.args.n c.args.number c.loop-len.invariant c.loop-len-test.true c.power-p.ensures c.if-i-p.false
+    longer c.args.n c.args.number c.loop-len.invariant c.loop-len-test.true c.power-p.ensures c.if-i-p.false
 
 pub returns : goal.returns
 returns c = none_left c.args.n c.args.number c.loop-len.invariant c.loop-len-test.false

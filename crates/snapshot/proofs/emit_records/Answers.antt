@@ -10,14 +10,14 @@ returns-then-is_too_short c =
 
 pub put_offset-offset-requires : goal.put_offset-offset-requires
 put_offset-offset-requires c =
-                    let reals = c.reals_end-end.ensures in (
+    let reals = c.reals_end-end.ensures in (
       omega (arith, reals.low, reals.high),
       offset_fits c.args.image.now reals c.args.out.now c.is_too_short.ensures c.if-is_too_short.false,
     )
 
 pub put_entries-entries-requires : goal.put_entries-entries-requires
 put_entries-entries-requires c =
-                        let reals = c.reals_end-end.ensures in
+    let reals = c.reals_end-end.ensures in
     let offset = c.put_offset-offset.ensures in (
       lent-entries c.args.image.now reals,
       lent-kept c.args.image.now reals,
@@ -31,10 +31,13 @@ put_epoch-total-requires c =
     let tested = c.is_too_short.ensures in
     let offset = c.put_offset-offset.ensures in
     let entries = c.put_entries-entries.ensures in
-    record { head_size_in_bounds = (
+    record {
+      head_size_in_bounds = (
         omega (arith, reals.low, reals.high),
         entries-total c.args.image.now reals c.args.out.now tested c.if-is_too_short.false offset entries,
-      ); image_in_bounds = epoch_fits c.args.image.now reals c.args.out.now tested c.if-is_too_short.false offset entries }
+      );
+      image_in_bounds = epoch_fits c.args.image.now reals c.args.out.now tested c.if-is_too_short.false offset entries;
+    }
 
 pub put_kraft-requires : goal.put_kraft-requires
 put_kraft-requires c =
@@ -43,10 +46,13 @@ put_kraft-requires c =
     let offset = c.put_offset-offset.ensures in
     let entries = c.put_entries-entries.ensures in
     let epoch = c.put_epoch-total.ensures in
-    record { head_size_in_bounds = (
+    record {
+      head_size_in_bounds = (
         omega (arith, reals.low, reals.high),
         epoch-total c.args.image.now reals c.args.out.now tested c.if-is_too_short.false offset entries epoch,
-      ); image_in_bounds = kraft_fits c.args.image.now reals c.args.out.now tested c.if-is_too_short.false offset entries epoch }
+      );
+      image_in_bounds = kraft_fits c.args.image.now reals c.args.out.now tested c.if-is_too_short.false offset entries epoch;
+    }
 
 pub returns : goal.returns
 returns c =

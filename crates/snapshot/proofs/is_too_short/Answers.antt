@@ -7,14 +7,14 @@ use Rattle.snapshot.proofs.is_too_short.Goals as goal
 
 pub returns-then-end-room : goal.returns-then-end-room
 returns-then-end-room c =
-        let image = c.args.image.now in
+    let image = c.args.image.now in
     room_enough image c.requires (known_bytes image (λ i. omega (arith, c.type_inv.image i))) c.if-end-room.true
 
 pub returned_length-entries-requires : goal.returned_length-entries-requires
 returned_length-entries-requires c =
-        (lent-entries c.args.image.now c.requires, lent-kept c.args.image.now c.requires)
+    (lent-entries c.args.image.now c.requires, lent-kept c.args.image.now c.requires)
 
 pub returns : goal.returns
 returns c =
-                        room-told c.args.image.now c.requires c.args.room c.returned_length-entries.ensures.0
+    room-told c.args.image.now c.requires c.args.room c.returned_length-entries.ensures.0
     c.epoch_in.ensures c.epoch_length.ensures.0 c.kraft_in.ensures c.kraft_length.ensures.0

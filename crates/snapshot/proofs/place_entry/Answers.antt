@@ -9,16 +9,16 @@ use Rattle.snapshot.proofs.place_entry.Goals as goal
 
 pub put_returned-requires : goal.put_returned-requires
 put_returned-requires c =
-        let behind = c.requires.behind.0 in
+    let behind = c.requires.behind.0 in
     (entire _ behind.is, omega (arith, c.requires.end_in_bounds, here-length behind))
 
 pub returned_size-requires : goal.returned_size-requires
 returned_size-requires c =
-        entire _ c.requires.behind.0.is
+    entire _ c.requires.behind.0.is
 
 pub overflow_add-result : goal.overflow_add-result
 overflow_add-result c =
-        omega (arith, c.requires.end_in_bounds, here-length c.requires.behind.0, c.returned_size.ensures)
+    omega (arith, c.requires.end_in_bounds, here-length c.requires.behind.0, c.returned_size.ensures)
 
 pub returns : goal.returns
 returns c =

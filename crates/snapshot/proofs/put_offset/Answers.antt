@@ -4,4 +4,4 @@ use Rattle.snapshot.proofs.put_offset.Goals as goal
 
 pub returns : goal.returns
 returns c =
-                offset-written c.args.out.now _ c.offset_in.ensures c.put_number.ensures
+    offset-written c.args.out.now _ c.offset_in.ensures c.put_number.ensures

@@ -8,12 +8,12 @@ use Rattle.steps.proofs.cut.Goals as goal
 
 pub slice_bounds-restore-end : goal.slice_bounds-restore-end
 slice_bounds-restore-end c =
-            let said = ap replied (sym c.in-Used.is) ∙ c.snapshot.ensures.result_value in
+    let said = ap replied (sym c.in-Used.is) ∙ c.snapshot.ensures.result_value in
     written_fits c.args.image.now c.args.out.now _ _ said c.snapshot.ensures.out_after
 
 pub slice_bounds-restore-end-in-Used : goal.slice_bounds-restore-end-in-Used
 slice_bounds-restore-end-in-Used c =
-            let said = ap replied (sym c.in-Used.is) ∙ c.snapshot.ensures.result_value in
+    let said = ap replied (sym c.in-Used.is) ∙ c.snapshot.ensures.result_value in
     sym (length-take-le _ _ (written_fits c.args.image.now c.args.out.now _ _ said c.snapshot.ensures.out_after))
 
 pub returns-in-Used : goal.returns-in-Used

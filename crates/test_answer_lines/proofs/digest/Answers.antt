@@ -15,7 +15,7 @@ overflow_mul-n c = omega (arith, c.loop-i.invariant.1)
 
 pub overflow_add-n : goal.overflow_add-n
 overflow_add-n c =
-        let x : c.wide.result < 256 = omega (arith, c.shared_slice_known-1.given c.loop-i.i) in
+    let x : c.wide.result < 256 = omega (arith, c.shared_slice_known-1.given c.loop-i.i) in
     omega (arith, x, c.loop-i.invariant.1)
 
 pub loop-i-preserved : goal.loop-i-preserved

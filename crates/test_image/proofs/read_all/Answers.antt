@@ -23,12 +23,11 @@ pub slice_bounds-answer-end-in-loop-turns : goal.slice_bounds-answer-end-in-loop
 slice_bounds-answer-end-in-loop-turns c = sym (length-take-le _ _ c.next_line-input.ensures.0)
 
 pub loop-turns-preserved : goal.loop-turns-preserved
-loop-turns-preserved c =
-        (
-      omega (arith, c.next_line-input.auto.bytes, c.loop-turns.invariant.0),
-      omega (arith, c.answer.auto.1.0, c.loop-turns.invariant.1),
-      omega (arith, c.next_line-input.auto.chunk, c.loop-turns.invariant.2),
-    )
+loop-turns-preserved c = (
+  omega (arith, c.next_line-input.auto.bytes, c.loop-turns.invariant.0),
+  omega (arith, c.answer.auto.1.0, c.loop-turns.invariant.1),
+  omega (arith, c.next_line-input.auto.chunk, c.loop-turns.invariant.2),
+)
 
 pub shape_of-bytes : goal.shape_of-bytes
 shape_of-bytes c = c.loop-turns.invariant.0

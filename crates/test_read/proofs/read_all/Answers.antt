@@ -21,7 +21,7 @@ slice_bounds-print_answer-end-in-loop-turns c = sym (length-take-le _ _ c.next_l
 
 pub loop-turns-preserved : goal.loop-turns-preserved
 loop-turns-preserved c =
-            (omega (arith, c.next_line-input.auto.bytes, c.loop-turns.invariant.0), omega (arith, c.next_line-input.auto.chunk, c.loop-turns.invariant.1))
+    (omega (arith, c.next_line-input.auto.bytes, c.loop-turns.invariant.0), omega (arith, c.next_line-input.auto.chunk, c.loop-turns.invariant.1))
 
 pub shape_of-bytes : goal.shape_of-bytes
 shape_of-bytes c = c.loop-turns.invariant.0

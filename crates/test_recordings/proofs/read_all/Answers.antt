@@ -8,7 +8,7 @@ loop-turns-init c = (refl, refl, refl, refl)
 
 pub shape_of-bytes-then-not-input : goal.shape_of-bytes-then-not-input
 shape_of-bytes-then-not-input c =
-        omega (arith, c.next_line-input.auto.bytes, c.loop-turns.invariant.0)
+    omega (arith, c.next_line-input.auto.bytes, c.loop-turns.invariant.0)
 
 pub shape_of-a-then-not-input : goal.shape_of-a-then-not-input
 shape_of-a-then-not-input c = c.loop-turns.invariant.1
@@ -18,7 +18,7 @@ shape_of-b-then-not-input c = c.loop-turns.invariant.2
 
 pub shape_of-chunk-then-not-input : goal.shape_of-chunk-then-not-input
 shape_of-chunk-then-not-input c =
-        omega (arith, c.next_line-input.auto.chunk, c.loop-turns.invariant.3)
+    omega (arith, c.next_line-input.auto.chunk, c.loop-turns.invariant.3)
 
 pub slice_bounds-answer-end : goal.slice_bounds-answer-end
 slice_bounds-answer-end c = c.next_line-input.ensures.0
@@ -27,13 +27,12 @@ pub slice_bounds-answer-end-in-loop-turns : goal.slice_bounds-answer-end-in-loop
 slice_bounds-answer-end-in-loop-turns c = sym (length-take-le _ _ c.next_line-input.ensures.0)
 
 pub loop-turns-preserved : goal.loop-turns-preserved
-loop-turns-preserved c =
-            (
-      omega (arith, c.next_line-input.auto.bytes, c.loop-turns.invariant.0),
-      omega (arith, c.answer.auto.b, c.loop-turns.invariant.1),
-      omega (arith, c.answer.auto.1.1.0, c.loop-turns.invariant.2),
-      omega (arith, c.next_line-input.auto.chunk, c.loop-turns.invariant.3),
-    )
+loop-turns-preserved c = (
+  omega (arith, c.next_line-input.auto.bytes, c.loop-turns.invariant.0),
+  omega (arith, c.answer.auto.b, c.loop-turns.invariant.1),
+  omega (arith, c.answer.auto.1.1.0, c.loop-turns.invariant.2),
+  omega (arith, c.next_line-input.auto.chunk, c.loop-turns.invariant.3),
+)
 
 pub shape_of-bytes : goal.shape_of-bytes
 shape_of-bytes c = c.loop-turns.invariant.0

@@ -26,13 +26,12 @@ pub slice_bounds-answer-end-in-loop-place : goal.slice_bounds-answer-end-in-loop
 slice_bounds-answer-end-in-loop-place c = sym (length-take-le _ _ c.next_line-input.ensures.0)
 
 pub loop-place-preserved : goal.loop-place-preserved
-loop-place-preserved c =
-            (
-      omega (arith, c.next_line-input.auto.bytes, c.loop-place.invariant.0),
-      omega (arith, c.answer-capacity.auto.out, c.loop-place.invariant.1),
-      omega (arith, c.answer-capacity.auto.1.1.0, c.loop-place.invariant.2),
-      omega (arith, c.next_line-input.auto.chunk, c.loop-place.invariant.3),
-    )
+loop-place-preserved c = (
+  omega (arith, c.next_line-input.auto.bytes, c.loop-place.invariant.0),
+  omega (arith, c.answer-capacity.auto.out, c.loop-place.invariant.1),
+  omega (arith, c.answer-capacity.auto.1.1.0, c.loop-place.invariant.2),
+  omega (arith, c.next_line-input.auto.chunk, c.loop-place.invariant.3),
+)
 
 pub shape_of-bytes : goal.shape_of-bytes
 shape_of-bytes c = c.loop-place.invariant.0

@@ -15,7 +15,7 @@ bounds-out-at-2 c = omega (arith, c.requires.1, two_long c.args.n c.if-n-lt128.f
 
 pub bounds-out-at-3 : goal.bounds-out-at-3
 bounds-out-at-3 c =
-        simp length-set (omega (arith, c.requires.1, two_long c.args.n c.if-n-lt128.false c.requires.0))
+    simp length-set (omega (arith, c.requires.1, two_long c.args.n c.if-n-lt128.false c.requires.0))
 
 pub returns : goal.returns
 returns c = let a = c.args in two-put a.out.now a.at a.n c.if-n-lt128.false c.requires.0 c.requires.1

@@ -8,7 +8,7 @@ use Rattle.view_snapshot.proofs.emit_seen.Goals as goal
 
 pub seen_length-requires : goal.seen_length-requires
 seen_length-requires c =
-            let image = c.args.image.now in
+    let image = c.args.image.now in
     (lent-entries image c.reals_end-end.ensures, lent-short image c.reals_end-end.ensures c.requires.0, c.requires.1)
 
 pub returns-then-out-seen_length : goal.returns-then-out-seen_length
@@ -18,7 +18,7 @@ returns-then-out-seen_length c =
 
 pub put_entries-requires : goal.put_entries-requires
 put_entries-requires c =
-                    (lent-entries c.args.image.now c.reals_end-end.ensures, omega (arith, c.seen_length.ensures, c.if-out-seen_length.false), c.requires.1)
+    (lent-entries c.args.image.now c.reals_end-end.ensures, omega (arith, c.seen_length.ensures, c.if-out-seen_length.false), c.requires.1)
 
 pub returns : goal.returns
 returns c =

@@ -6,15 +6,15 @@ use Rattle.view_snapshot.proofs.seen_size.Goals as goal
 
 pub is_seen-requires : goal.is_seen-requires
 is_seen-requires c =
-        (is_keyed _ c.requires.0, c.requires.1)
+    (is_keyed _ c.requires.0, c.requires.1)
 
 pub returns-then-not-is_seen : goal.returns-then-not-is_seen
 returns-then-not-is_seen c =
-        size_hidden _ _ c.requires.0 c.is_seen.ensures c.if-not-is_seen.true-raw
+    size_hidden _ _ c.requires.0 c.is_seen.ensures c.if-not-is_seen.true-raw
 
 pub returned_size-requires : goal.returned_size-requires
 returned_size-requires c = entire _ c.requires.0
 
 pub returns : goal.returns
 returns c =
-            size_shown _ _ c.requires.0 c.is_seen.ensures c.if-not-is_seen.false-raw c.returned_size.ensures
+    size_shown _ _ c.requires.0 c.is_seen.ensures c.if-not-is_seen.false-raw c.returned_size.ensures

@@ -10,7 +10,7 @@ returns-then-f-ne0 c =
 
 pub emit_seen-requires : goal.emit_seen-requires
 emit_seen-requires c =
-        let passed = sym c.viewer_fault-f.ensures ∙ c.if-f-ne0.false in
+    let passed = sym c.viewer_fault-f.ensures ∙ c.if-f-ne0.false in
     (viewer_image _ _ passed, viewer_prefixes _ _ passed)
 
 pub returns : goal.returns

@@ -15,6 +15,6 @@ is_visible-requires c = c.requires.1
 
 pub returns : goal.returns
 returns c =
-                    let p = c.value_at-p in
+    let p = c.value_at-p in
     seen_named _ _ c.requires.0 _ c.rank_of-rank.ensures c.if-rank-lt4.false
     c.if-rank-gt9.false (lent_slice _ _ _ p.ensures.1 ∙ p.ensures.0) c.is_visible.ensures

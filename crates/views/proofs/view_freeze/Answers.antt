@@ -9,15 +9,14 @@ returns-then-f-ne0 c =
 
 pub reals_end-end-requires : goal.reals_end-end-requires
 reals_end-end-requires c =
-            query_image c.args.image.now _ _ c.args.out.now c.query_fault-f.ensures c.if-f-ne0.false
+    query_image c.args.image.now _ _ c.args.out.now c.query_fault-f.ensures c.if-f-ne0.false
 
 pub emit_freeze-requires : goal.emit_freeze-requires
-emit_freeze-requires c =
-                (
-      lent-entries _ c.reals_end-end.ensures,
-      lent-kept _ c.reals_end-end.ensures,
-      query_fits c.args.image.now _ _ c.args.out.now c.query_fault-f.ensures c.if-f-ne0.false,
-    )
+emit_freeze-requires c = (
+  lent-entries _ c.reals_end-end.ensures,
+  lent-kept _ c.reals_end-end.ensures,
+  query_fits c.args.image.now _ _ c.args.out.now c.query_fault-f.ensures c.if-f-ne0.false,
+)
 
 pub returns : goal.returns
 returns c =

@@ -11,7 +11,7 @@ returns-then-f-ne0 c =
 
 pub entry-requires : goal.entry-requires
 entry-requires c =
-                    let image = c.args.image.now in
+    let image = c.args.image.now in
     let out = c.args.out.now in (
       query_image image _ _ out c.query_fault-f.ensures c.if-f-ne0.false,
       partition_query _ _ (query_fits image _ _ out c.query_fault-f.ensures c.if-f-ne0.false) (ap length c.put.ensures),

@@ -9,7 +9,7 @@ returns-then-f-ne0 c =
 
 pub entry-requires : goal.entry-requires
 entry-requires c =
-                let image = c.args.image.now in
+    let image = c.args.image.now in
     let out = c.args.out.now in
     (query_image image _ _ out c.query_fault-f.ensures c.if-f-ne0.false, topic_query _ (query_fits image _ _ out c.query_fault-f.ensures c.if-f-ne0.false))
 

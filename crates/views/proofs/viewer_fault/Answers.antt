@@ -10,10 +10,10 @@ returns-then-not-is_image c = viewer_none _ _ c.is_image.ensures c.if-not-is_ima
 
 pub returns-in-Refused : goal.returns-in-Refused
 returns-in-Refused c =
-                let checked = subst (CheckedAs false 8 _) c.in-Refused.is c.check.ensures in
+    let checked = subst (CheckedAs false 8 _) c.in-Refused.is c.check.ensures in
     viewer_checked _ _ c.is_image.ensures c.if-not-is_image.false-raw checked.0
 
 pub returns-in-Names : goal.returns-in-Names
 returns-in-Names c =
-            let checked = subst (CheckedAs false 8 _) c.in-Names.is c.check.ensures in
+    let checked = subst (CheckedAs false 8 _) c.in-Names.is c.check.ensures in
     viewer_checked _ _ c.is_image.ensures c.if-not-is_image.false-raw checked.0

@@ -8,7 +8,7 @@ same_words-i-requires c = (c.lower-both.ensures.0, c.lower-both.ensures.1)
 
 pub loop-i-init : goal.loop-i-init
 loop-i-init c =
-        (c.same_words-i.ensures.0, c.lower-both.ensures.0, c.lower-both.ensures.1, c.same_words-i.ensures.1)
+    (c.same_words-i.ensures.0, c.lower-both.ensures.0, c.lower-both.ensures.1, c.same_words-i.ensures.1)
 
 pub returns-then-x-y-2 : goal.returns-then-x-y-2
 returns-then-x-y-2 c =

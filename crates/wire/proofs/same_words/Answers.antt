@@ -14,7 +14,7 @@ get-requires c = let inv = c.loop-i.invariant in (omega arith, omega (arith, inv
 
 pub get-requires-in-loop-i : goal.get-requires-in-loop-i
 get-requires-in-loop-i c =
-        let inv = c.loop-i.invariant in
+    let inv = c.loop-i.invariant in
     (omega arith, omega (arith, inv.2, c.loop-i-test.true))
 
 pub returns-then-get : goal.returns-then-get
@@ -22,15 +22,15 @@ returns-then-get c = let inv = c.loop-i.invariant in (inv.0, inv.3)
 
 pub overflow_add-i : goal.overflow_add-i
 overflow_add-i c =
-        omega (arith, c.loop-i.invariant.0, c.loop-i-test.true)
+    omega (arith, c.loop-i.invariant.0, c.loop-i-test.true)
 
 pub loop-i-smaller : goal.loop-i-smaller
 loop-i-smaller c =
-        omega (arith, c.loop-i.invariant.0, c.loop-i-test.true)
+    omega (arith, c.loop-i.invariant.0, c.loop-i-test.true)
 
 pub loop-i-preserved : goal.loop-i-preserved
 loop-i-preserved c =
-                        let a = c.args.a.now in
+    let a = c.args.a.now in
     let b = c.args.b.now in
     let inv = c.loop-i.invariant in
     let enough = c.loop-i-test.true in

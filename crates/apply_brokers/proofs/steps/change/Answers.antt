@@ -15,4 +15,4 @@ set_cordoned-requires c =
 
 pub returns : goal.returns
 returns c =
-                all_set _ _ c.fence-fenced.ensures c.shut-down.ensures c.set_dirs-size.ensures c.set_cordoned.ensures
+    all_set _ _ c.fence-fenced.ensures c.shut-down.ensures c.set_dirs-size.ensures c.set_cordoned.ensures

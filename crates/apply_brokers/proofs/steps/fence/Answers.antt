@@ -6,7 +6,7 @@ use Rattle.apply_brokers.proofs.steps.fence.Goals as goal
 
 pub value_number-fencing-requires : goal.value_number-fencing-requires
 value_number-fencing-requires c =
-        (c.requires.1.is, omega arith, fencing_width _ c.requires.1)
+    (c.requires.1.is, omega arith, fencing_width _ c.requires.1)
 
 pub replace-requires : goal.replace-requires
 replace-requires c = (c.requires.0, fenced_suits _ (lit< tt))
@@ -22,4 +22,4 @@ replace-requires-2 c = (c.requires.0, fenced_suits _ (lit< tt))
 
 pub returns : goal.returns
 returns c =
-                fenced _ c.value_number-fencing.ensures _ c.if-fencing-eq0.false c.if-fencing-eq1.false c.replace-2.ensures
+    fenced _ c.value_number-fencing.ensures _ c.if-fencing-eq0.false c.if-fencing-eq1.false c.replace-2.ensures

@@ -13,8 +13,8 @@ value_at-p-requires c = headed _ c.requires.1.is
 
 pub replace-requires : goal.replace-requires
 replace-requires c =
-                (c.requires.0, cordoned_suit _ c.requires.1 _ _ c.value_at-p.ensures (sym c.has.ensures ∙ not-false _ c.if-not-has.false-raw))
+    (c.requires.0, cordoned_suit _ c.requires.1 _ _ c.value_at-p.ensures (sym c.has.ensures ∙ not-false _ c.if-not-has.false-raw))
 
 pub returns : goal.returns
 returns c =
-                    cordoned_set _ c.requires.1 _ _ _ c.value_at-p.ensures (sym c.has.ensures ∙ not-false _ c.if-not-has.false-raw) c.replace.ensures
+    cordoned_set _ c.requires.1 _ _ _ c.value_at-p.ensures (sym c.has.ensures ∙ not-false _ c.if-not-has.false-raw) c.replace.ensures

@@ -8,12 +8,12 @@ value_at-p-requires c = headed _ c.requires.1.is
 
 pub returns-then-start-end : goal.returns-then-start-end
 returns-then-start-end c =
-        no_dirs _ c.requires.1 _ _ _ c.value_at-p.ensures c.if-start-end.true c.requires.0
+    no_dirs _ c.requires.1 _ _ _ c.value_at-p.ensures c.if-start-end.true c.requires.0
 
 pub replace-requires : goal.replace-requires
 replace-requires c =
-        (c.requires.0, dirs_suit _ c.requires.1 _ _ c.value_at-p.ensures)
+    (c.requires.0, dirs_suit _ c.requires.1 _ _ c.value_at-p.ensures)
 
 pub returns : goal.returns
 returns c =
-                dirs_set _ c.requires.1 _ _ _ c.value_at-p.ensures c.if-start-end.false c.replace.ensures
+    dirs_set _ c.requires.1 _ _ _ c.value_at-p.ensures c.if-start-end.false c.replace.ensures

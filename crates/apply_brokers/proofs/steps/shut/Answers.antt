@@ -6,7 +6,7 @@ use Rattle.apply_brokers.proofs.steps.shut.Goals as goal
 
 pub value_number-requires : goal.value_number-requires
 value_number-requires c =
-        (c.requires.1.is, omega arith, shut_width _ c.requires.1)
+    (c.requires.1.is, omega arith, shut_width _ c.requires.1)
 
 pub replace-requires : goal.replace-requires
 replace-requires c = (c.requires.0, shut_suits _ (lit< tt))

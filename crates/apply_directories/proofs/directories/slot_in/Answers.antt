@@ -11,8 +11,8 @@ node_at-requires c = (headed _ c.requires.1.is, node_width_lem _ c.requires.1)
 
 pub slot_of-requires : goal.slot_of-requires
 slot_of-requires c =
-        lent-whole _ c.args.rec.now c.requires.0 c.requires.1 _ _ c.value_at-p.ensures
+    lent-whole _ c.args.rec.now c.requires.0 c.requires.1 _ _ c.value_at-p.ensures
 
 pub returns : goal.returns
 returns c =
-        slot-found _ _ c.requires.0 c.requires.1 _ _ c.value_at-p.ensures c.node_at.ensures c.slot_of.ensures
+    slot-found _ _ c.requires.0 c.requires.1 _ _ c.value_at-p.ensures c.node_at.ensures c.slot_of.ensures

@@ -16,7 +16,7 @@ get-requires c = (omega arith, walk_bound _ _ _ _ c.loop-i.invariant c.loop-i-te
 
 pub returns-then-get-node : goal.returns-then-get-node
 returns-then-get-node c =
-        let nodes = c.args.nodes.now in
+    let nodes = c.args.nodes.now in
     let at = c.loop-i in
     let more = c.loop-i-test.true in
     let are = known_bytes nodes (λ i. omega (arith, c.type_inv.nodes i)) in
@@ -26,7 +26,7 @@ returns-then-get-node c =
 
 pub loop-i-preserved : goal.loop-i-preserved
 loop-i-preserved c =
-        let nodes = c.args.nodes.now in
+    let nodes = c.args.nodes.now in
     let at = c.loop-i in
     let more = c.loop-i-test.true in
     let are = known_bytes nodes (λ i. omega (arith, c.type_inv.nodes i)) in

@@ -8,12 +8,12 @@ use Rattle.apply_plan.proofs.states.add_offset.Goals as goal
 
 pub slice_bounds-overflows-end-2 : goal.slice_bounds-overflows-end-2
 slice_bounds-overflows-end-2 c =
-        sym (length-take-le _ _ (omega (arith, c.requires.0.order, c.requires.0.fits)))
+    sym (length-take-le _ _ (omega (arith, c.requires.0.order, c.requires.0.fits)))
 
 pub returns-then-overflows : goal.returns-then-overflows
 returns-then-overflows c = (refl, sym c.overflows.ensures ∙ c.if-overflows.true)
 
 pub returns : goal.returns
 returns c =
-                    subst (Added (record_in c.args.rec.now).run c.args.w.now c.args.state c.advance.new.w) (sym c.with_bounds.ensures)
+    subst (Added (record_in c.args.rec.now).run c.args.w.now c.args.state c.advance.new.w) (sym c.with_bounds.ensures)
     (sym c.overflows.ensures ∙ c.if-overflows.false, c.advance.ensures, refl)

@@ -7,8 +7,8 @@ use Rattle.apply_plan.proofs.tests.erase_node.Goals as goal
 
 pub erase_named-requires : goal.erase_named-requires
 erase_named-requires c =
-        (c.requires.0, subst (λ v. Query c.args.kind v []) (sym c.put.ensures) c.requires.1)
+    (c.requires.0, subst (λ v. Query c.args.kind v []) (sym c.put.ensures) c.requires.1)
 
 pub returns : goal.returns
 returns c =
-            drop-lent c.args.kind c.put.ensures c.erase_named.ensures
+    drop-lent c.args.kind c.put.ensures c.erase_named.ensures

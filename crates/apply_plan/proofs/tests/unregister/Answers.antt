@@ -15,7 +15,7 @@ node_at-node-requires c = (headed _ c.requires.1, node_wide _ c.requires.1 c.req
 
 pub slice_bounds-at_epoch-end-2 : goal.slice_bounds-at_epoch-end-2
 slice_bounds-at_epoch-end-2 c =
-        sym (length-take-le _ _ (omega (arith, c.requires.0.order, c.requires.0.fits)))
+    sym (length-take-le _ _ (omega (arith, c.requires.0.order, c.requires.0.fits)))
 
 pub at_epoch-requires : goal.at_epoch-requires
 at_epoch-requires c = (c.requires.0.reals, headed _ c.requires.1)
@@ -26,12 +26,12 @@ erase_node-requires c =
 
 pub returns-then-at_epoch : goal.returns-then-at_epoch
 returns-then-at_epoch c =
-        let node = c.node_at-node.ensures in
+    let node = c.node_at-node.ensures in
     let tested = c.at_epoch.ensures ∙ of_node (take c.args.bounds.mid c.args.w.now) c.args.rec.now node in
     unregistered _ c.requires.1 c.requires.2 _ tested c.if-at_epoch.true node c.erase_node.ensures
 
 pub returns : goal.returns
 returns c =
-        let node = c.node_at-node.ensures in
+    let node = c.node_at-node.ensures in
     let tested = c.at_epoch.ensures ∙ of_node (take c.args.bounds.mid c.args.w.now) c.args.rec.now node in
     not_registered _ c.requires.1 c.requires.2 _ tested c.if-at_epoch.false c.requires.0

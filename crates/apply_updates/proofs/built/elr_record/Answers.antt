@@ -29,5 +29,5 @@ returns c =
     let begun : Upto 268 c.begin_named-n.new.b c.begin_named-n.result 21 (named_of (run_in c.args.rec.now)) = named_draft c.args.rec.now c.requires.0 c.begin_named-n.new.b c.begin_named-n.result 21 c.begin_named-n.ensures in
     let with-eligible : Upto 783 c.copy_field-m.new.b c.copy_field-m.result 21 (set_field 3 (value 2 (run_in c.args.rec.now)) (named_of (run_in c.args.rec.now))) = step_says begun refl 512 (eligible_short _ c.requires.0) (lit< tt) 3 c.copy_field-m.new.b c.copy_field-m.result c.copy_field-m.ensures in
     let f = c.copy_field in
-            let s = c.args.rec.now in
+    let s = c.args.rec.now in
     elr_built s c.requires.0 (step_says with-eligible refl 512 (known-short s c.requires.0) (lit< tt) 4 f.new.b f.result f.ensures)

@@ -11,11 +11,11 @@ value_at-p-requires c =
 pub put_field-requires : goal.put_field-requires
 put_field-requires c =
     let p = c.value_at-p in
-        partition_fits c.args.rec.now c.requires.0 p.result.start p.result.end p.ensures c.args.b.now c.requires.1
+    partition_fits c.args.rec.now c.requires.0 p.result.start p.result.end p.ensures c.args.b.now c.requires.1
 
 pub returns : goal.returns
 returns c =
     let f = c.put_field in
-            let are = known_bytes c.args.rec.now (λ i. omega (arith, c.type_inv.rec i)) in
+    let are = known_bytes c.args.rec.now (λ i. omega (arith, c.type_inv.rec i)) in
     let v = c.value_at-p in
     partition-written c.args.rec.now c.requires.0 v.result.start v.result.end v.ensures are c.args.b.now f.new.out f.ensures

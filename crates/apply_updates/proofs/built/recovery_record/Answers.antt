@@ -20,5 +20,5 @@ pub returns : goal.returns
 returns c =
     let begun : Upto 268 c.begin_named-n.new.b c.begin_named-n.result 22 (named_of (run_in c.args.rec.now)) = named_draft c.args.rec.now c.requires.0 c.begin_named-n.new.b c.begin_named-n.result 22 c.begin_named-n.ensures in
     let f = c.copy_field in
-            let s = c.args.rec.now in
+    let s = c.args.rec.now in
     recovery_built s c.requires.0 (step_says begun refl 1 (state_short s c.requires.0) (lit< tt) 3 f.new.b f.result f.ensures)

@@ -12,6 +12,6 @@ returns-then-rank-gt9 c = apart_high _ c.requires _ c.rank_of-rank.ensures _ c.i
 
 pub returns : goal.returns
 returns c =
-                    let p = c.value_at-p in
+    let p = c.value_at-p in
     apart_named _ c.requires _ c.rank_of-rank.ensures _ c.if-rank-lt4.false
     c.if-rank-gt9.false _ _ (lent_slice _ _ _ p.ensures.1 ∙ p.ensures.0) c.same.ensures

@@ -8,7 +8,7 @@ use Rattle.fields.proofs.Cursor.next.Goals as goal
 pub returns-then-at-to : goal.returns-then-at-to
 unfolding told Onward
 returns-then-at-to c =
-        let e : c.args.self.at ≡ c.args.self.to = omega arith in
+    let e : c.args.self.at ≡ c.args.self.to = omega arith in
     (sym (parse-end _ _ c.requires.1 _ e), tt)
 
 pub returns-then-to-at-lt3 : goal.returns-then-to-at-lt3
@@ -23,7 +23,7 @@ returns-then-len-to c =
 pub returns : goal.returns
 unfolding told Onward
 returns c =
-        let a = c.args in
+    let a = c.args in
     let g = c.get16-len in
     let within = c.requires.1 in (
       rw c.size.ensures.0

@@ -14,7 +14,7 @@ overflow_sub-used c =
 
 pub weight_of-requires : goal.weight_of-requires
 weight_of-requires c =
-        (lent-entries c.args.image.now c.reals_end-end.ensures, omega (arith, c.used_in-used.ensures.1))
+    (lent-entries c.args.image.now c.reals_end-end.ensures, omega (arith, c.used_in-used.ensures.1))
 
 pub returns : goal.returns
 returns c =

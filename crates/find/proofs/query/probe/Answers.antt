@@ -9,7 +9,7 @@ use Rattle.find.proofs.query.probe.Goals as goal
 
 pub returns : goal.returns
 returns c =
-                let a = c.args in
+    let a = c.args in
     let h = c.put_head in
     let f = c.put_field in
     let g = c.put_field-2 in

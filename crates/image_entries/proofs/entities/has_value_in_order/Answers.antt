@@ -8,11 +8,11 @@ field-requires c = let o = in_order _ c.look_at.ensures c.in-InOrder.is in (o.1,
 
 pub returns-in-Part : goal.returns-in-Part
 returns-in-Part c =
-            valued _ (in_order _ c.look_at.ensures c.in-InOrder.is) c.field.ensures.0 c.in-Part.is
+    valued _ (in_order _ c.look_at.ensures c.in-InOrder.is) c.field.ensures.0 c.in-Part.is
 
 pub returns-in-Missing : goal.returns-in-Missing
 returns-in-Missing c =
-            valueless _ (in_order _ c.look_at.ensures c.in-InOrder.is) c.field.ensures.0 c.in-Missing.is
+    valueless _ (in_order _ c.look_at.ensures c.in-InOrder.is) c.field.ensures.0 c.in-Missing.is
 
 pub returns-in-OutOfOrder : goal.returns-in-OutOfOrder
 returns-in-OutOfOrder c = disordered _ (out_of_order_lem _ c.look_at.ensures c.in-OutOfOrder.is)

@@ -10,7 +10,7 @@ returns-then-not-is_bare c = group_not_bare _ c.requires c.is_bare.ensures (not-
 
 pub returns-then-not-is_empty : goal.returns-then-not-is_empty
 returns-then-not-is_empty c =
-        group_named _ c.requires c.is_bare.ensures (not-false _ c.if-not-is_bare.false-raw) c.is_empty.ensures
+    group_named _ c.requires c.is_bare.ensures (not-false _ c.if-not-is_bare.false-raw) c.is_empty.ensures
     (not-true _ c.if-not-is_empty.true-raw)
 
 pub bounds-e-0 : goal.bounds-e-0
@@ -18,10 +18,10 @@ bounds-e-0 c = omega (arith, headed _ c.requires)
 
 pub returns-then-e-eq-BROKER_CONFIG : goal.returns-then-e-eq-BROKER_CONFIG
 returns-then-e-eq-BROKER_CONFIG c =
-        group_config _ c.requires c.is_bare.ensures (not-false _ c.if-not-is_bare.false-raw)
+    group_config _ c.requires c.is_bare.ensures (not-false _ c.if-not-is_bare.false-raw)
     c.is_empty.ensures (not-false _ c.if-not-is_empty.false-raw) c.if-e-eq-BROKER_CONFIG.true
 
 pub returns : goal.returns
 returns c =
-        group_quota _ c.requires c.is_bare.ensures (not-false _ c.if-not-is_bare.false-raw)
+    group_quota _ c.requires c.is_bare.ensures (not-false _ c.if-not-is_bare.false-raw)
     c.is_empty.ensures (not-false _ c.if-not-is_empty.false-raw) c.if-e-eq-BROKER_CONFIG.false c.entities_in_order.ensures

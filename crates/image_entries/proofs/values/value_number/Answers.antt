@@ -13,4 +13,4 @@ number_at-requires c =
 
 pub returns : goal.returns
 returns c =
-        c.number_at.ensures ∙ ap (λ r. number (value c.args.tag r)) (run_in_lem _ c.requires.0)
+    c.number_at.ensures ∙ ap (λ r. number (value c.args.tag r)) (run_in_lem _ c.requires.0)

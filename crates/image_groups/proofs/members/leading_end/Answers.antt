@@ -13,7 +13,7 @@ next-requires c = (c.loop-tag.invariant.order, omega (arith, c.loop-tag.invarian
 
 pub returns-then-tag-ne1 : goal.returns-then-tag-ne1
 returns-then-tag-ne1 c =
-            ahead_end _ _ c.loop-tag.invariant c.requires _ (took _ c.next.ensures.0 c.in-Field.is) (leading_other _ _ _ c.if-tag-ne1.true)
+    ahead_end _ _ c.loop-tag.invariant c.requires _ (took _ c.next.ensures.0 c.in-Field.is) (leading_other _ _ _ c.if-tag-ne1.true)
 
 pub loop-tag-smaller : goal.loop-tag-smaller
 loop-tag-smaller c =
@@ -28,8 +28,8 @@ loop-tag-preserved c =
 
 pub returns-in-Torn : goal.returns-in-Torn
 returns-in-Torn c =
-        ahead_end _ _ c.loop-tag.invariant c.requires _ (tore _ c.next.ensures.0 c.in-Torn.is) leading_torn
+    ahead_end _ _ c.loop-tag.invariant c.requires _ (tore _ c.next.ensures.0 c.in-Torn.is) leading_torn
 
 pub returns-in-End : goal.returns-in-End
 returns-in-End c =
-        ahead_end _ _ c.loop-tag.invariant c.requires _ (ended _ c.next.ensures.0 c.in-End.is) leading_done
+    ahead_end _ _ c.loop-tag.invariant c.requires _ (ended _ c.next.ensures.0 c.in-End.is) leading_done

@@ -28,15 +28,15 @@ compare_keys-requires c =
 
 pub returns-in-Less : goal.returns-in-Less
 returns-in-Less c =
-        let p = c.requires in
+    let p = c.requires in
     member_told _ _ p.0 p.1 p.2 c.if-e-g.false _ c.leading_end-n.ensures _ Less c.compare_keys.ensures c.in-Less.is
 
 pub returns-in-Equal : goal.returns-in-Equal
 returns-in-Equal c =
-        let p = c.requires in
+    let p = c.requires in
     member_told _ _ p.0 p.1 p.2 c.if-e-g.false _ c.leading_end-n.ensures _ Equal c.compare_keys.ensures c.in-Equal.is
 
 pub returns-in-Greater : goal.returns-in-Greater
 returns-in-Greater c =
-        let p = c.requires in
+    let p = c.requires in
     member_told _ _ p.0 p.1 p.2 c.if-e-g.false _ c.leading_end-n.ensures _ Greater c.compare_keys.ensures c.in-Greater.is

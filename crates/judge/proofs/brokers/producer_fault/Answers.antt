@@ -11,6 +11,6 @@ returns-then-place_in-stored_next c =
 
 pub returns : goal.returns
 returns c =
-        let a = c.args in
+    let a = c.args in
     above a.s.now a.rec.now c.place_in.ensures c.stored_next.ensures c.if-place_in-stored_next.false c.unless.ensures
     (c.at_epoch.ensures ∙ of_node a.s.now a.rec.now c.node_at.ensures)

@@ -17,7 +17,7 @@ find_node-p-requires c = (c.requires, controller_query _ (length-bytes 8 c.args.
 
 pub returns : goal.returns
 returns c =
-        let s = c.args.s.now in
+    let s = c.args.s.now in
     let node = bytes 8 c.args.node.0 in
     let are = known_bytes s (λ i. omega (arith, c.type_inv.s i)) in
     c.unless.ensures

@@ -6,7 +6,7 @@ use Rattle.judge.proofs.lookups.find_named.Goals as goal
 
 pub find-requires : goal.find-requires
 find-requires c =
-        (c.requires.0, lent_query _ (lent-value _ _ _ _ c.value_at-p.ensures) refl c.requires.2)
+    (c.requires.0, lent_query _ (lent-value _ _ _ _ c.value_at-p.ensures) refl c.requires.2)
 
 pub returns : goal.returns
 returns c = lent-place _ (lent-value _ _ _ _ c.value_at-p.ensures) refl _ c.find.ensures

@@ -11,14 +11,14 @@ returns-then-name-gt-MOST_NAME c = long_name c.args.name.now c.if-name-lt1.false
 
 pub returns-then-not-are_name_bytes : goal.returns-then-not-are_name_bytes
 returns-then-not-are_name_bytes c =
-            other_bytes c.args.name.now c.if-name-lt1.false c.if-name-gt-MOST_NAME.false c.are_name_bytes.ensures c.if-not-are_name_bytes.true-raw
+    other_bytes c.args.name.now c.if-name-lt1.false c.if-name-gt-MOST_NAME.false c.are_name_bytes.ensures c.if-not-are_name_bytes.true-raw
 
 pub returns-then-same : goal.returns-then-same
 returns-then-same c =
-                one_dot c.args.name.now c.if-name-lt1.false c.if-name-gt-MOST_NAME.false c.are_name_bytes.ensures c.if-not-are_name_bytes.false-raw
+    one_dot c.args.name.now c.if-name-lt1.false c.if-name-gt-MOST_NAME.false c.are_name_bytes.ensures c.if-not-are_name_bytes.false-raw
     c.same.ensures c.if-same.true
 
 pub returns : goal.returns
 returns c =
-                    two_dots c.args.name.now c.if-name-lt1.false c.if-name-gt-MOST_NAME.false c.are_name_bytes.ensures c.if-not-are_name_bytes.false-raw
+    two_dots c.args.name.now c.if-name-lt1.false c.if-name-gt-MOST_NAME.false c.are_name_bytes.ensures c.if-not-are_name_bytes.false-raw
     c.same.ensures c.if-same.false c.same-2.ensures

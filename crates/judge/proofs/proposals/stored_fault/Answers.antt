@@ -7,8 +7,8 @@ returns-then-number_at-ne0 c = consumed _ _ c.number_at.ensures c.if-number_at-n
 
 pub returns-then-number_at-eq1 : goal.returns-then-number_at-eq1
 returns-then-number_at-eq1 c =
-        withdrawn _ _ c.number_at.ensures c.if-number_at-ne0.false c.number_at-2.ensures c.if-number_at-eq1.true
+    withdrawn _ _ c.number_at.ensures c.if-number_at-ne0.false c.number_at-2.ensures c.if-number_at-eq1.true
 
 pub returns : goal.returns
 returns c =
-            by_approvals _ _ c.number_at.ensures c.if-number_at-ne0.false c.number_at-2.ensures c.if-number_at-eq1.false c.unless.ensures c.extends.ensures
+    by_approvals _ _ c.number_at.ensures c.if-number_at-ne0.false c.number_at-2.ensures c.if-number_at-eq1.false c.unless.ensures c.extends.ensures

@@ -7,8 +7,8 @@ returns-then-not-same_value c = other_id _ _ _ c.same_value.ensures c.if-not-sam
 
 pub returns-then-number_at : goal.returns-then-number_at
 returns-then-number_at c =
-        other_factor _ _ _ c.same_value.ensures c.if-not-same_value.false-raw c.number_at.ensures c.number_at-2.ensures c.if-number_at.true
+    other_factor _ _ _ c.same_value.ensures c.if-not-same_value.false-raw c.number_at.ensures c.number_at-2.ensures c.if-number_at.true
 
 pub returns : goal.returns
 returns c =
-            by_count _ _ _ c.same_value.ensures c.if-not-same_value.false-raw c.number_at.ensures c.number_at-2.ensures c.if-number_at.false c.place_in.ensures
+    by_count _ _ _ c.same_value.ensures c.if-not-same_value.false-raw c.number_at.ensures c.number_at-2.ensures c.if-number_at.false c.place_in.ensures

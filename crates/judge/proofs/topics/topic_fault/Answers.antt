@@ -5,5 +5,5 @@ use Rattle.judge.proofs.topics.topic_fault.Goals as goal
 
 pub returns : goal.returns
 returns c =
-            name_first (lent-value _ _ _ _ c.value_at-p.ensures) c.is_lawful.ensures c.unless-unlawful.ensures c.topic_exists-exists.ensures
+    name_first (lent-value _ _ _ _ c.value_at-p.ensures) c.is_lawful.ensures c.unless-unlawful.ensures c.topic_exists-exists.ensures
     c.or_then.ensures

@@ -19,12 +19,12 @@ slice_bounds-unknown_name-end c =
 
 pub unknown_name-requires : goal.unknown_name-requires
 unknown_name-requires c =
-            (c.requires.0, nested_short _ _ _ _ c.value_at-p.ensures _ c.field.ensures.0 c.in-Part.is 255 c.requires.2)
+    (c.requires.0, nested_short _ _ _ _ c.value_at-p.ensures _ c.field.ensures.0 c.in-Part.is 255 c.requires.2)
 
 pub returns-in-Part : goal.returns-in-Part
 returns-in-Part c =
-        unknown-lent _ (lent_nested _ _ _ _ c.value_at-p.ensures _ c.field.ensures.0 c.in-Part.is) c.unknown_name.ensures
+    unknown-lent _ (lent_nested _ _ _ _ c.value_at-p.ensures _ c.field.ensures.0 c.in-Part.is) c.unknown_name.ensures
 
 pub returns-in-Missing : goal.returns-in-Missing
 returns-in-Missing c =
-        unknown-lent _ (none_nested _ _ _ _ c.value_at-p.ensures _ c.field.ensures.0 c.in-Missing.is) c.unknown_name-in-Missing.ensures
+    unknown-lent _ (none_nested _ _ _ _ c.value_at-p.ensures _ c.field.ensures.0 c.in-Missing.is) c.unknown_name-in-Missing.ensures

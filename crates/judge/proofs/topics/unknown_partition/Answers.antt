@@ -5,7 +5,7 @@ use Rattle.judge.proofs.topics.unknown_partition.Goals as goal
 
 pub is_stored-requires : goal.is_stored-requires
 is_stored-requires c =
-        let p = lent-value _ _ _ _ c.value_at-p.ensures in
+    let p = lent-value _ _ _ _ c.value_at-p.ensures in
     let q = lent-value _ _ _ _ c.value_at-q.ensures in
     (c.requires.0, lent_query 2 p q (partition_query _ _ c.requires.2 c.requires.3))
 

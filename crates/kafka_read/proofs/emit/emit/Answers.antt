@@ -7,6 +7,6 @@ returns-then-out-size c = let a = c.args in record-short a.kind a.first.now a.se
 
 pub returns : goal.returns
 returns c =
-                        let a = c.args in
+    let a = c.args in
     record-written a.kind a.first.now a.second.now a.others.now a.out.now a.used c.if-out-size.false c.put_head.ensures c.put_field.ensures
     c.put_field-2.ensures c.copy.ensures

@@ -4,5 +4,5 @@ use Rattle.kafka_read.proofs.emit.emit_broker.Goals as goal
 
 pub returns : goal.returns
 returns c =
-            let a = c.args in
+    let a = c.args in
     broker_parts a.kind a.broker a.s.now a.at a.others.now a.out.now a.used c.put.ensures c.emit.ensures

@@ -7,5 +7,5 @@ returns-then-s-at c = let a = c.args in rest_cut a.s.now a.at a.width c.if-s-at.
 
 pub returns : goal.returns
 returns c =
-        let a = c.args in
+    let a = c.args in
     rest_skipped a.s.now a.at a.width c.if-s-at.false c.skip_tagged.result c.skip_tagged.ensures

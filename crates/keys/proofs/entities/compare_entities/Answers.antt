@@ -7,7 +7,7 @@ use Rattle.keys.proofs.entities.compare_entities.Goals as goal
 
 pub loop-start-init : goal.loop-start-init
 loop-start-init c =
-        let p = c.requires in
+    let p = c.requires in
     let a = begins c.args.a.now in
     let b = begins c.args.b.now in (
       (p.first, omega arith),
@@ -31,19 +31,19 @@ compare_entity-requires c =
 
 pub returns-in-Less : goal.returns-in-Less
 returns-in-Less c =
-                        let x = stands c.in-At.is c.next_entity.ensures in
+    let x = stands c.in-At.is c.next_entity.ensures in
     let y = stands c.in-At-next_entity.is c.next_entity-in-At.ensures in
     let h = c.compare_entity.ensures in
     heads_less _ _ _ _ _ _ x.front y.front h c.in-Less.is ∙ c.loop-start.invariant.4
 
 pub loop-start-smaller : goal.loop-start-smaller
 loop-start-smaller c =
-            let x = stands c.in-At.is c.next_entity.ensures in
+    let x = stands c.in-At.is c.next_entity.ensures in
     omega (arith, x.onwards, x.ends, x.inside)
 
 pub loop-start-preserved : goal.loop-start-preserved
 loop-start-preserved c =
-                        let x = stands c.in-At.is c.next_entity.ensures in
+    let x = stands c.in-At.is c.next_entity.ensures in
     let y = stands c.in-At-next_entity.is c.next_entity-in-At.ensures in
     let h = c.compare_entity.ensures in
     let i = c.loop-start.invariant in (
@@ -56,7 +56,7 @@ loop-start-preserved c =
 
 pub returns-in-Greater : goal.returns-in-Greater
 returns-in-Greater c =
-                        let x = stands c.in-At.is c.next_entity.ensures in
+    let x = stands c.in-At.is c.next_entity.ensures in
     let y = stands c.in-At-next_entity.is c.next_entity-in-At.ensures in
     let h = c.compare_entity.ensures in
     heads_greater _ _ _ _ _ _ x.front y.front h c.in-Greater.is ∙ c.loop-start.invariant.4

@@ -22,8 +22,8 @@ slice_bounds-compare-end-in-Part-field c = let w = within-part c.in-Part-field.i
 
 pub returns-in-Part-field : goal.returns-in-Part-field
 returns-in-Part-field c =
-                        let a = c.args in
-            let n = c.field.ensures in
+    let a = c.args in
+    let n = c.field.ensures in
     let m = c.field-in-Part.ensures in
     c.compare.ensures
     ∙ ap₂ compare_bytes (lent_slice a.a.now c.in-Part.start (c.in-Part.start + c.in-Part.len) (omega arith)) (lent_slice a.b.now c.in-Part-field.from (c.in-Part-field.from + c.in-Part-field.n) (omega arith))

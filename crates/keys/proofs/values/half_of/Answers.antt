@@ -14,6 +14,6 @@ loop-i-preserved c = (omega arith, half-more _ _ c.loop-i.invariant.1)
 
 pub returns : goal.returns
 returns c =
-        let l = c.loop-i in
+    let l = c.loop-i in
     let e : l.i ≡ c.args.width = omega arith in
     half_is _ _ c.requires.0 (rw (← e) l.invariant.1)

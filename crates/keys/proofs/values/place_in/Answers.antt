@@ -18,7 +18,7 @@ returns-then-n-half c =
 
 pub returns : goal.returns
 returns c =
-            let e = c.args.e.now in
+    let e = c.args.e.now in
     let n = c.number_at-n.ensures in
     let are_bytes = known_bytes e (λ i. omega (arith, c.type_inv.e i)) in
     let below : c.number_at-n.result < span c.args.width = rw n (number-below e are_bytes c.args.tag c.args.width c.requires.3) in

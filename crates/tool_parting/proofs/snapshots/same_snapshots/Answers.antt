@@ -11,4 +11,4 @@ slice_bounds-same_records-end-4 c = sym (length-take-le _ _ c.take_snapshot-m.en
 
 pub returns : goal.returns
 returns c =
-            rw (← c.take_snapshot-n.ensures.1, ← c.take_snapshot-m.ensures.1) c.same_records.ensures
+    rw (← c.take_snapshot-n.ensures.1, ← c.take_snapshot-m.ensures.1) c.same_records.ensures

@@ -6,8 +6,8 @@ use Rattle.tool_parting.proofs.snapshots.take_snapshot.Goals as goal
 
 pub returns-in-Used : goal.returns-in-Used
 returns-in-Used c =
-            taken c.args.image.now c.args.out.now _ c.snapshot.ensures.out_after _ (ap replied (sym c.in-Used.is) ∙ c.snapshot.ensures.result_value)
+    taken c.args.image.now c.args.out.now _ c.snapshot.ensures.out_after _ (ap replied (sym c.in-Used.is) ∙ c.snapshot.ensures.result_value)
 
 pub returns-in-Refused : goal.returns-in-Refused
 returns-in-Refused c =
-            not_taken c.args.image.now c.args.out.now _ c.snapshot.ensures.out_after _ (ap replied (sym c.in-Refused.is) ∙ c.snapshot.ensures.result_value)
+    not_taken c.args.image.now c.args.out.now _ c.snapshot.ensures.out_after _ (ap replied (sym c.in-Refused.is) ∙ c.snapshot.ensures.result_value)

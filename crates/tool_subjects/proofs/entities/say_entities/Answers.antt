@@ -19,10 +19,10 @@ slice_bounds-say_entity-end c = let m = moved c.in-Field.is c.next.ensures.1 in 
 
 pub loop-tag-smaller : goal.loop-tag-smaller
 loop-tag-smaller c =
-        let m = moved c.in-Field.is c.next.ensures.1 in
+    let m = moved c.in-Field.is c.next.ensures.1 in
     omega arith
 
 pub loop-tag-preserved : goal.loop-tag-preserved
 loop-tag-preserved c =
-        let m = moved c.in-Field.is c.next.ensures.1 in
+    let m = moved c.in-Field.is c.next.ensures.1 in
     (omega arith, omega arith)

@@ -8,5 +8,5 @@ overflow_add-result c = let w = within-part c.in-Part.is c.field.ensures.1 in om
 
 pub returns-in-Part : goal.returns-in-Part
 returns-in-Part c =
-        let w = within-part c.in-Part.is c.field.ensures.1 in
+    let w = within-part c.in-Part.is c.field.ensures.1 in
     (omega arith, omega arith)
