@@ -29,7 +29,7 @@ set_recovery-requires c =
       e.ensures.good,
       record { is = c.requires.1; kind = c.requires.2 },
       omega (arith, few, e.ensures.most, m.ensures.most, e.auto.w, m.auto.w, c.requires.4),
-      omega (arith, e.auto.1, r.auto.b, c.requires.5),
+      omega (arith, e.auto.b, r.auto.b, c.requires.5),
     )
 
 pub returns : goal.returns
