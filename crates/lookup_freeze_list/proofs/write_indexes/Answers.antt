@@ -18,12 +18,12 @@ pass-prefixes-requires c =
 pub pass-literals-requires : goal.pass-literals-requires
 pass-literals-requires c =
     let p = c.requires in
-    (p.0, p.1, p.2, omega (arith, p.3, p.4, c.fill.auto.out, c.pass-prefixes.auto.1.1.1.1.0), p.5, last_name_lem (jobs c.args.list.now) p.6 p.3 c.if-n-eq0.false)
+    (p.0, p.1, p.2, omega (arith, p.3, p.4, c.fill.auto.out, c.pass-prefixes.auto.out), p.5, last_name_lem (jobs c.args.list.now) p.6 p.3 c.if-n-eq0.false)
 
 pub mark_from-requires : goal.mark_from-requires
 mark_from-requires c =
     let p = c.requires in
-    (p.2, omega (arith, p.3, p.4, c.fill.auto.out, c.pass-prefixes.auto.1.1.1.1.0, c.pass-literals.auto.1.1.1.1.0), behind-start _ _ p.2)
+    (p.2, omega (arith, p.3, p.4, c.fill.auto.out, c.pass-prefixes.auto.out, c.pass-literals.auto.out), behind-start _ _ p.2)
 
 pub returns : goal.returns
 returns c =

@@ -27,8 +27,8 @@ slice_bounds-answer-end-in-loop-turns c = sym (length-take-le _ _ c.next_line-in
 pub loop-turns-preserved : goal.loop-turns-preserved
 loop-turns-preserved c = (
   omega (arith, c.next_line-input.auto.bytes, c.loop-turns.invariant.0),
-  omega (arith, c.answer.auto.work, c.loop-turns.invariant.1),
-  omega (arith, c.answer.auto.1.1.0, c.loop-turns.invariant.2),
+  omega (arith, c.answer.auto.image, c.loop-turns.invariant.1),
+  omega (arith, c.answer.auto.work, c.loop-turns.invariant.2),
   omega (arith, c.next_line-input.auto.chunk, c.loop-turns.invariant.3),
 )
 

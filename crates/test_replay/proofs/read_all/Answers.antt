@@ -28,8 +28,8 @@ slice_bounds-answer-end-in-loop-place c = sym (length-take-le _ _ c.next_line-in
 pub loop-place-preserved : goal.loop-place-preserved
 loop-place-preserved c = (
   omega (arith, c.next_line-input.auto.bytes, c.loop-place.invariant.0),
-  omega (arith, c.answer-capacity.auto.out, c.loop-place.invariant.1),
-  omega (arith, c.answer-capacity.auto.1.1.0, c.loop-place.invariant.2),
+  omega (arith, c.answer-capacity.auto.work, c.loop-place.invariant.1),
+  omega (arith, c.answer-capacity.auto.out, c.loop-place.invariant.2),
   omega (arith, c.next_line-input.auto.chunk, c.loop-place.invariant.3),
 )
 
