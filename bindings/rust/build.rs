@@ -1,6 +1,6 @@
 //! Links the proved library, `libjeghatuf.a`. It is sought in the folder that
 //! `JEGHATUF_LIB_DIR` names; else where pkg-config says that it is installed; else
-//! where `rt staticlib jeghatuf` leaves it in this repository.
+//! where `bash scripts/library` leaves it in this repository.
 
 use std::env;
 use std::path::{Path, PathBuf};
@@ -16,7 +16,7 @@ fn main() {
     let folder = named().or_else(installed).or_else(built);
     let Some(folder) = folder else {
         println!(
-            "cargo::error=there is no {ARCHIVE}: {VARIABLE} names no folder, pkg-config knows no jeghatuf, and rt staticlib jeghatuf was not run in this repository"
+            "cargo::error=there is no {ARCHIVE}: {VARIABLE} names no folder, pkg-config knows no jeghatuf, and bash scripts/library was not run in this repository"
         );
         exit(1);
     };

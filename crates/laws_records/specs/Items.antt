@@ -6,7 +6,6 @@ use Rattle.model.specs.Choice.{joined}
 use Rattle.model.specs.Number.{Bytes, AreBytes}
 use Rattle.model.specs.Shape.{Source, fault}
 use Rattle.model.specs.Record.{Rec, record_bytes, Got, bad, got, read, on_got}
-use Rattle.model.specs.Items as Items
 use Rattle.model.specs.Items.{Items, end, item, items_from, items_of, records, is_whole}
 use Rattle.laws.specs.Choice.{impossible}
 use Rattle.laws.specs.Lists.{All}

@@ -1,14 +1,14 @@
 -- What the operation says by the number: 26 exactly from the count on, else the history's bytes or 19.
 use Rattle.std.specs.Prelude.{◌≡◌, List, [], ◌∷◌, ℕ, ◌≤◌, ◌<◌, length}
 use Rattle.std.proofs.Math.Path.{refl}
-use Rattle.std.proofs.Common.{sym, ap, ◌∙◌, arith}
+use Rattle.std.proofs.Common.{◌∙◌, arith}
 use Rattle.std.proofs.Math.Option.{Option, none, some}
 use Rattle.model.specs.Number.{Bytes}
 use Rattle.model.specs.Shape.{framed}
 use Rattle.model.specs.Record.{Rec}
-use Rattle.model.specs.Items.{Items, items_of, records}
-use Rattle.model.specs.Reply.{Ended, unchanged, emit_bytes}
-use Rattle.model.specs.ShortHistory.{record_limit, history_at, history_count, few_fault, history_bytes, numbered, faultless, history_of, PastTheLast}
+use Rattle.model.specs.Items.{items_of, records}
+use Rattle.model.specs.Reply.{unchanged, emit_bytes}
+use Rattle.model.specs.ShortHistory.{history_at, history_count, history_bytes, numbered, history_of, PastTheLast}
 use Rattle.laws_short.specs.Numbers.{none_from_the_count}
 
 -- of some records

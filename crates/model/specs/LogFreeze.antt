@@ -1,6 +1,6 @@
 -- A name's freeze from a run of encoded records: 02's request 14, "The freeze, from the log alone", and what it claims of the restored image.
 -- `crates/laws_log` proves the claim.
-use Rattle.std.specs.Prelude.{ℕ, zero, suc, Bool, true, false, cond, ◌&&◌, List, [], ◌∷◌, ◌++◌, ◌≡◌, eqb}
+use Rattle.std.specs.Prelude.{ℕ, zero, suc, Bool, true, false, cond, ◌&&◌, List, [], ◌++◌, ◌≡◌, eqb}
 use Rattle.std.proofs.Math.Option.{Option, none, some}
 use Rattle.model.specs.Choice.{given, last_of}
 use Rattle.model.specs.Number.{Bytes, AreBytes, number, is_offset}

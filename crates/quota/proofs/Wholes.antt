@@ -1,5 +1,5 @@
 -- The whole number of a value, one lemma an exit: the range, and the double of its whole part.
-use Rattle.std.proofs.Common.{◌≡◌, ℕ, Bool, true, false, not, T, ℤ, pos, sym, refl, eq-eqb, ne_eqb}
+use Rattle.std.proofs.Common.{◌≡◌, Bool, true, false, not, T, ℤ, pos, sym, refl, eq-eqb, ne_eqb}
 use lib.Ieee.{Float, fin, binary64, le, lt, eq, to_signed, of_int}
 use Rattle.quota.specs.Quota.{exactly_of, whole_of}
 use Rattle.quota.specs.declared.Quota.{Quota}
