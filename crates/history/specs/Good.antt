@@ -1,5 +1,5 @@
 -- What holds of contents along a history that meets the premises, so that a restore changes neither their entries nor their fixed parts.
-use Rattle.std.specs.Prelude.{◌≡◌, List, ◌∷◌, map, Bool, not, ℕ, ◌-◌}
+use Rattle.std.specs.Prelude.{◌≡◌, List, [], ◌∷◌, map, Bool, not, ℕ, ◌-◌}
 use Rattle.std.proofs.Math.Path.{refl}
 use Rattle.std.proofs.Common.{sym, inl, inr, eqb-true}
 use Rattle.std.proofs.Math.Option.{Option, none, some}
@@ -46,7 +46,7 @@ apart_head name id n f p l h other m g q i =
 
 apart_names : (l : List Entry) → ids_apart l ≡ true
     → (a b id : Bytes) (m n f g : ℕ) (p q : Bool) → In (topic a id m f p) l → In (topic b id n g q) l → a ≡ b
-apart_names mathlib.Core.List.[] h a b id m n f g p q x3 _ = elim x3 [ ]
+apart_names [] h a b id m n f g p q x3 _ = elim x3 [ ]
 apart_names (x ∷ l) h a b id m n f g p q (inl d) (inl e) = cc
 apart_names (x ∷ l) h a b id m n f g p q (inl d) (inr j) = absurd (apart_head a id m f p l (rw d h) b n g q j)
 apart_names (x ∷ l) h a b id m n f g p q (inr i) (inl e) = absurd (apart_head b id n g q l (rw e h) a m f p i)

@@ -7,7 +7,7 @@ use Rattle.model.specs.Run.{Run}
 use Rattle.model.specs.Key.{rank, key_rank, key_of}
 use Rattle.model.specs.declared.Kind.{Kind}
 use Rattle.model.specs.declared.Kind.TheVariants.{Topic, Partition, BrokerRegistration, DeleteTopic, TopicConfig, BrokerConfig, ClientQuota, ProducerIds, UnregisterBroker, KRaftVersion, FeatureLevel, ClientMetricsConfig, FeaturesEpoch}
-use Rattle.model.specs.declared.Kind.TheVariants.{PartitionDirAssignment, PartitionOffsetAdvance, GroupConfig, ControllerRegistration, TopicFreeze, BreakGlassProposal, DeleteBreakGlassProposal, PartitionElr, PartitionRecovery, PartitionUpdate, BrokerRegistrationChange, UnregisterController}
+use Rattle.model.specs.declared.Kind.TheVariants.{PartitionDirAssignment, PartitionOffsetAdvance, GroupConfig, ControllerRegistration, TopicFreeze, BreakGlassProposal, DeleteBreakGlassProposal, PartitionElr, PartitionRecovery, PartitionUpdate, BrokerRegistrationChange, UnregisterController, LogOffset}
 
 -- the kinds that have a rank, in its order, the first being 1
 ranked : List Kind
@@ -22,7 +22,7 @@ kind_at (suc n) = get_elem? ranked n
 
 kind_rank : (k : Kind) → 0 < rank k → kind_at (rank k) ≡ some k
 unfolding kind_at ranked rank
-kind_rank Rattle.model.specs.declared.Kind.TheVariants.LogOffset h = elim h [ ]
+kind_rank LogOffset h = elim h [ ]
 kind_rank BrokerRegistration h = refl
 kind_rank ControllerRegistration h = refl
 kind_rank BrokerConfig h = refl
