@@ -1,5 +1,5 @@
 -- An index names the single lookup's freeze, and none is hex FFFF: an image has fewer freezes than bytes.
-use Rattle.std.specs.Prelude.{◌≡◌, Bool, ◌&&◌, length}
+use Rattle.std.specs.Prelude.{◌≡◌, Bool, length}
 use Rattle.std.proofs.Math.Path.{refl}
 use Rattle.std.proofs.Common.{sym, ap, ◌∙◌, arith}
 use Rattle.std.proofs.Math.Bool.{true, false, cond}
@@ -7,17 +7,17 @@ use mathlib.Core.List.{List, [], ◌∷◌, ◌++◌}
 use Rattle.std.proofs.Math.Option.{Option, none, some}
 use Prim.Native.Nat.{ℕ, zero, suc, ◌+◌, ◌≤◌, ◌<◌, Ordering}
 use Rattle.model.specs.Choice.{given, or_else, choose, total}
-use Rattle.model.specs.Number.{Bytes, AreBytes}
+use Rattle.model.specs.Number.{Bytes}
 use Rattle.model.specs.Order.{Key, compare_keys}
 use Rattle.model.specs.Record.{Rec, record_bytes}
 use Rattle.model.specs.Key.{rank, key_rank, freeze_key}
 use Rattle.model.specs.Map.{get, count, keep}
-use Rattle.model.specs.Contents.{Entry, kept, returned, key, record_key}
-use Rattle.model.specs.Image.{is_image, contents_of, entry_bytes, head_size, most_capacity}
+use Rattle.model.specs.Contents.{Entry, returned, key, record_key}
+use Rattle.model.specs.Image.{contents_of}
 use Rattle.model.specs.Lookup.{begins_with, internal, prefixed, literal, longest_by, freeze_by, freeze, returned_at}
 use Rattle.model.specs.FreezeList.{is_freeze, freeze_before, no_freeze, freeze_index, stored_freezes, element_at, IndexNamesFreeze, IndexesApart}
 use Rattle.laws.specs.Choice.{impossible}
-use Rattle.laws.specs.Order.{keys_total, Lt, gt_lt}
+use Rattle.laws.specs.Order.{keys_total, gt_lt}
 use Rattle.laws.specs.Map.{Asc, get_in}
 use Rattle.laws_image.specs.Groups.{key-returned}
 use Rattle.laws_image.specs.Orderly.{orderly}

@@ -1,7 +1,7 @@
 -- The names that begin with a scope stand together: none is below it, and behind one that is not below it and does not begin with it there is none.
 use Rattle.std.specs.Prelude.{◌≡◌, refl, true, [], ◌∷◌, eqb}
-use Rattle.std.proofs.Common.{sym, ap, ◌∙◌, eqb-true, eq-eqb}
-use Prim.Native.Nat.{ℕ, Ordering, compare}
+use Rattle.std.proofs.Common.{sym, eqb-true, eq-eqb}
+use Prim.Native.Nat.{Ordering, compare}
 use Rattle.model.specs.Number.{Bytes}
 use Rattle.model.specs.Order.{compare_bytes}
 use Rattle.model.specs.Lookup.{begins_with}

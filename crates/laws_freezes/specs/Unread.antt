@@ -9,7 +9,7 @@ use Rattle.model.specs.Text.{is_text}
 use Rattle.model.specs.Order.{compare_bytes, is_below}
 use Rattle.model.specs.Shape.{string_limit}
 use Rattle.model.specs.Image.{contents_of}
-use Rattle.model.specs.Names.{Names, end, bad, name, in_order_lem, name_fault, unless_bad, names_from, names_of, list_fault, listed}
+use Rattle.model.specs.Names.{bad, name, in_order_lem, name_fault, unless_bad, names_from, names_of, list_fault, listed}
 use Rattle.model.specs.FreezeList.{last_name, UnreadUnseen, job_limit}
 use Rattle.laws.specs.Choice.{impossible, and_both, and_left, and_right}
 use Rattle.laws.specs.Order.{bytes-total, gt_lt, lt≢gt, lt≢eq}

@@ -1,6 +1,6 @@
 -- Of a visible name the viewer's freeze is everyone's: a stored prefix of the name and the viewer's prefix of it are one the beginning of the other.
 use Rattle.std.specs.Prelude.{◌≡◌, refl, Bool, true, false, cond, ◌&&◌, ◌||◌, List, [], ◌∷◌, eqb}
-use Rattle.std.proofs.Common.{sym, ap, ap₂, ◌∙◌, eqb-true, eq-eqb}
+use Rattle.std.proofs.Common.{ap, ap₂, eqb-true, eq-eqb}
 use Rattle.std.proofs.Math.Bool.{or-true}
 use Rattle.std.proofs.Math.Option.{none}
 use Rattle.model.specs.Choice.{or_else}
@@ -10,7 +10,7 @@ use Rattle.model.specs.Key.{freeze_key}
 use Rattle.model.specs.Contents.{Entry}
 use Rattle.model.specs.Image.{contents_of}
 use Rattle.model.specs.Lookup.{named, begins_with, literal, prefixed, internal, longest_by, freeze_by, returned_at, as_list, freeze, freeze_of}
-use Rattle.model.specs.View.{visible, touches, scope_counts, view_freeze, prefixes_in, query_fault, view_freeze_of, FreezeOfVisible}
+use Rattle.model.specs.View.{visible, touches, scope_counts, view_freeze, prefixes_in, view_freeze_of, FreezeOfVisible}
 use Rattle.laws.specs.Choice.{true_false}
 use Rattle.laws.specs.Freeze.{longest_on}
 use Rattle.laws_view.specs.Passed.{viewer_image, query_viewer, query_text, query_visible}
