@@ -136,7 +136,10 @@ shape_of-out-in-Torn c = c.loop-start.invariant.size
 pub returns-in-Torn : goal.returns-in-Torn
 returns-in-Torn c =
     let bytes_in : AreBytes c.args.s.now = known_bytes c.args.s.now (λ i. omega (arith, c.type_inv.s i)) in
-    let the_whole = not_torn _ bytes_in _ c.loop-start.invariant.entries c.next.ensures c.in-Torn.is in record { value = the_whole.0; out_after = the_whole.1 }
+    record {
+      value = not_torn _ bytes_in _ c.loop-start.invariant.entries c.next.ensures c.in-Torn.is;
+      out_after = not_torn _ bytes_in _ c.loop-start.invariant.entries c.next.ensures c.in-Torn.is;
+    }
 
 pub shape_of-out-in-End : goal.shape_of-out-in-End
 shape_of-out-in-End c = c.loop-start.invariant.size
