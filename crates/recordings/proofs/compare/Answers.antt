@@ -8,13 +8,13 @@ pub returns-then-not-is_capacity : goal.returns-then-not-is_capacity
 returns-then-not-is_capacity c =
     let a = c.args in
     let p = no_capacity a.first.now a.second.now a.one.now a.other.now c.is_capacity.ensures c.if-not-is_capacity.true-raw in
-    let the_whole = (p.0, (p.1, p.2)) in record { result_value = the_whole.0; first_after = the_whole.1; second_after = the_whole.2 }
+    record { result_value = p.0; first_after = p.1; second_after = p.2 }
 
 pub returns-then-n-second : goal.returns-then-n-second
 returns-then-n-second c =
     let a = c.args in
     let p = unequal a.first.now a.second.now a.one.now a.other.now c.is_capacity.ensures c.if-not-is_capacity.false-raw c.if-n-second.true in
-    let the_whole = (p.0, (p.1, p.2)) in record { result_value = the_whole.0; first_after = the_whole.1; second_after = the_whole.2 }
+    record { result_value = p.0; first_after = p.1; second_after = p.2 }
 
 pub slice_bounds-spare-end : goal.slice_bounds-spare-end
 slice_bounds-spare-end c =
@@ -36,5 +36,5 @@ pub returns : goal.returns
 returns c =
     let a = c.args in
     let e = c.run in
-    let p = whole a.first.now a.second.now a.one.now a.other.now c.is_capacity.ensures c.if-not-is_capacity.false-raw c.if-n-second.false c.open.ensures.b_after c.open-2.ensures.b_after e.result (e.ensures.result_value, e.ensures.first_after.0, e.ensures.first_after.1) in
-    let the_whole = (p.0, (p.1, p.2)) in record { result_value = the_whole.0; first_after = the_whole.1; second_after = the_whole.2 }
+    let p = whole a.first.now a.second.now a.one.now a.other.now c.is_capacity.ensures c.if-not-is_capacity.false-raw c.if-n-second.false c.open.ensures.b_after c.open-2.ensures.b_after e.result (e.ensures.result_value, e.ensures.first_after, e.ensures.second_after) in
+    record { result_value = p.0; first_after = p.1; second_after = p.2 }

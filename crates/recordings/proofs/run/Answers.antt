@@ -88,7 +88,7 @@ returns-in-Parted c =
     let a = c.args in
     let turn = c.turn_both in
     let p = run_parted _ a.one.now a.other.now _ _ _ _ _ _ c.loop-n.invariant.0 turn.new.first turn.new.second _ turn.ensures c.in-Parted.is in
-    let the_whole = (p.0, (p.1, p.2)) in record { result_value = the_whole.0; first_after = the_whole.1; second_after = the_whole.2 }
+    record { result_value = p.0; first_after = p.1; second_after = p.2 }
 
 pub shape_of-first-in-Agree : goal.shape_of-first-in-Agree
 shape_of-first-in-Agree c =
@@ -107,4 +107,4 @@ returns-in-Agree c =
     let a = c.args in
     let turn = c.turn_both in
     let p = run_agree _ a.one.now a.other.now _ _ _ _ _ _ c.loop-n.invariant.0 turn.new.first turn.new.second _ turn.ensures c.in-Agree.is in
-    let the_whole = (p.0, (p.1, p.2)) in record { result_value = the_whole.0; first_after = the_whole.1; second_after = the_whole.2 }
+    record { result_value = p.0; first_after = p.1; second_after = p.2 }

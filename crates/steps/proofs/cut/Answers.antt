@@ -19,9 +19,9 @@ slice_bounds-restore-end-in-Used c =
 pub returns-in-Used : goal.returns-in-Used
 returns-in-Used c =
     let said = ap replied (sym c.in-Used.is) ∙ c.snapshot.ensures.result_value in
-    let the_whole = cut_taken c.args.image.now c.args.out.now _ _ said c.snapshot.ensures.out_after _ c.restore.ensures.image_after in record { value = the_whole.0; image_after = the_whole.1; out_after = the_whole.2 }
+    let the_whole = cut_taken c.args.image.now c.args.out.now _ _ said c.snapshot.ensures.out_after _ c.restore.ensures.image_after in record { value = the_whole.0; image_after = the_whole.1.0; out_after = the_whole.1.1 }
 
 pub returns-in-Refused : goal.returns-in-Refused
 returns-in-Refused c =
     let said = ap replied (sym c.in-Refused.is) ∙ c.snapshot.ensures.result_value in
-    let the_whole = cut_refused c.args.image.now c.args.out.now _ _ said c.snapshot.ensures.out_after in record { value = the_whole.0; image_after = the_whole.1; out_after = the_whole.2 }
+    let the_whole = cut_refused c.args.image.now c.args.out.now _ _ said c.snapshot.ensures.out_after in record { value = the_whole.0; image_after = the_whole.1.0; out_after = the_whole.1.1 }

@@ -6,10 +6,10 @@ pub returns-in-Written : goal.returns-in-Written
 returns-in-Written c =
     let e = c.freeze_list.ensures in
     let p = list_written e.result_value c.in-Written.is _ c.put_first.ensures in
-    let the_whole = (p.0, (e.out_after, p.1)) in record { value = the_whole.0; out_after = the_whole.1; read_after = the_whole.2 }
+    record { value = p.0; out_after = e.out_after; read_after = p.1 }
 
 pub returns-in-Refused : goal.returns-in-Refused
 returns-in-Refused c =
     let e = c.freeze_list.ensures in
     let p = list_refused e.result_value c.in-Refused.is c.alone.ensures _ in
-    let the_whole = (p.0, (e.out_after, p.1)) in record { value = the_whole.0; out_after = the_whole.1; read_after = the_whole.2 }
+    record { value = p.0; out_after = e.out_after; read_after = p.1 }

@@ -6,16 +6,16 @@ pub returns-in-Written : goal.returns-in-Written
 returns-in-Written c =
     let e = c.log_freeze.ensures in
     let p = run-written e.result_value c.in-Written.is _ c.put_first.ensures in
-    let the_whole = (p.0, (e.out_after, p.1)) in record { value = the_whole.0; out_after = the_whole.1; value_after = the_whole.2 }
+    record { value = p.0; out_after = e.out_after; value_after = p.1 }
 
 pub returns-in-Refused : goal.returns-in-Refused
 returns-in-Refused c =
     let e = c.log_freeze.ensures in
     let p = run-refused e.result_value c.in-Refused.is c.alone.ensures _ in
-    let the_whole = (p.0, (e.out_after, p.1)) in record { value = the_whole.0; out_after = the_whole.1; value_after = the_whole.2 }
+    record { value = p.0; out_after = e.out_after; value_after = p.1 }
 
 pub returns-in-Stopped : goal.returns-in-Stopped
 returns-in-Stopped c =
     let e = c.log_freeze.ensures in
     let p = run-stopped e.result_value c.in-Stopped.is c.alone-in-Stopped.ensures _ c.put_first-in-Stopped.ensures in
-    let the_whole = (p.0, (e.out_after, p.1)) in record { value = the_whole.0; out_after = the_whole.1; value_after = the_whole.2 }
+    record { value = p.0; out_after = e.out_after; value_after = p.1 }

@@ -6,16 +6,16 @@ pub returns-in-Done : goal.returns-in-Done
 returns-in-Done c =
     let e = c.restore.ensures in
     let p = restore_done e.result_value c.in-Done.is _ in
-    let the_whole = (p.0, (e.image_after, p.1)) in record { value = the_whole.0; image_after = the_whole.1; place_after = the_whole.2 }
+    record { value = p.0; image_after = e.image_after; place_after = p.1 }
 
 pub returns-in-Refused : goal.returns-in-Refused
 returns-in-Refused c =
     let e = c.restore.ensures in
     let p = restore_refused e.result_value c.in-Refused.is c.alone.ensures _ in
-    let the_whole = (p.0, (e.image_after, p.1)) in record { value = the_whole.0; image_after = the_whole.1; place_after = the_whole.2 }
+    record { value = p.0; image_after = e.image_after; place_after = p.1 }
 
 pub returns-in-Stopped : goal.returns-in-Stopped
 returns-in-Stopped c =
     let e = c.restore.ensures in
     let p = restore_stopped e.result_value c.in-Stopped.is c.alone-in-Stopped.ensures _ c.put_first.ensures in
-    let the_whole = (p.0, (e.image_after, p.1)) in record { value = the_whole.0; image_after = the_whole.1; place_after = the_whole.2 }
+    record { value = p.0; image_after = e.image_after; place_after = p.1 }
