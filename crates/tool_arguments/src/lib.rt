@@ -1,9 +1,10 @@
 // The arguments: a file, `cut N` or `cut all`, `at CAPACITY`, in any order, or `help`.
 #![tactic(auto)]
 
-ghost use Rattle.std.specs.Prelude.{◌≤◌, length};
+ghost use Rattle.std.specs.Prelude.{◌≤◌, length, IfSome};
 
 use lookup_rates::{Rate, rate_of};
+use std::env::{Env, FillError};
 use tool_words::names::complain_line;
 
 // Where the history is cut, if at all: after each record, or after so many.
@@ -195,41 +196,52 @@ struct Reading {
     asking: bool,
 }
 
-// The argument at a place, with the one before it, which may ask for it.
-fn with_argument(reading: Reading, path: &mut [u8], i: usize) -> Reading
+// The argument at a place into a buffer: how many bytes it has, 0 where they are more than the buffer's. None where there are fewer arguments.
+fn argument<E: Env>(env: &E, i: usize, word: &mut [u8]) -> Option<usize>
+    ensures { IfSome result (λ n. n ≤ length word.new) }
+{
+    match env.arg(i, word) {
+        Ok(n) => Some(n),
+        Err(FillError::TooLong) => Some(0),
+        Err(FillError::NotPresent) => None,
+    }
+}
+
+// The argument at a place, with the one before it, which may ask for it. None where there are fewer.
+fn with_argument<E: Env>(env: &E, reading: Reading, path: &mut [u8], i: usize) -> Option<Reading>
     requires { 1 ≤ i }
 {
     let mut word = io::buffer();
     let mut before = io::buffer();
-    let n = os::arg(i, &mut word);
-    let m = os::arg(i - 1, &mut before);
+    let n = argument(env, i, &mut word)?;
+    let m = argument(env, i - 1, &mut before)?;
     let options = reading.options;
     if reading.asking {
         let next = with_word(options, path, &before[..m], &word[..n]);
-        return Reading {
+        return Some(Reading {
             options: next,
             asking: false,
-        };
+        });
     }
     let next = with_word(options, path, b"", &word[..n]);
-    Reading {
+    Some(Reading {
         options: next,
         asking: asks(&word[..n]),
-    }
+    })
 }
 
 // Reads all arguments but the program's name.
-pub fn read_options(path: &mut [u8]) -> Options {
+pub fn read_options<E: Env>(env: &E, path: &mut [u8]) -> Options {
     let options = defaults();
     let mut reading = Reading {
         options,
         asking: false,
     };
-    let mut i = 1;
-    let count = os::arg_count();
-    while i < count {
-        reading = with_argument(reading, path, i);
-        i += 1;
+    for i in 1..usize::MAX {
+        match with_argument(env, reading, path, i) {
+            Some(next) => reading = next,
+            None => break,
+        }
     }
     let last = reading.options;
     if reading.asking {

@@ -4,6 +4,7 @@ ghost use Rattle.std.specs.Prelude.{◌-◌, ◌≤◌, length};
 use crate::turns::{Course, MOST, fresh, turn};
 use crate::verdicts::say_in_words;
 use model::refusals::PAST_THE_END;
+use std::io::{Read, Stdout};
 use tool_arguments::Cuts;
 use tool_source::{Source, passed, print_progress, refill, start};
 use tool_words::{say, say_number};
@@ -23,16 +24,19 @@ fn size_of(bytes: &[u8]) -> usize
 }
 
 // Says that bytes are left that no record's header covers.
-fn say_torn(place: u64) -> bool {
-    say_number(place) && say(b" no record: ") && say_in_words(PAST_THE_END) && say(b"\n")
+fn say_torn(stdout: Stdout, place: u64) -> bool {
+    say_number(stdout, place)
+        && say(stdout, b" no record: ")
+        && say_in_words(stdout, PAST_THE_END)
+        && say(stdout, b"\n")
 }
 
 // The file's end, or where it could not be read further.
-fn ended(course: Course, source: Source) -> Course {
+fn ended(stdout: Stdout, course: Course, source: Source) -> Course {
     let mut next = course;
-    next.read = !source.failed;
+    next.failed = source.failed;
     if source.at < source.end {
-        next.written = say_torn(source.place);
+        next.written = say_torn(stdout, source.place);
     }
     next
 }
@@ -58,21 +62,36 @@ fn say_progress(course: Course, place: u64) {
 }
 
 // Reads the whole file through a window. A proved loop has to end, and nothing says that a file does: the records end at a number that no run comes to.
-fn run_in(fd: i32, window: &mut [u8], plain: &mut [u8], other: &mut [u8], cuts: Cuts) -> Course
+fn run_in<R: Read>(
+    stdout: Stdout,
+    file: &mut R,
+    window: &mut [u8],
+    plain: &mut [u8],
+    other: &mut [u8],
+    cuts: Cuts,
+) -> Course
     requires { length window.old ≤ 262144 }
 {
     let mut source = start();
     let mut course = fresh();
     while 0 < left(course) {
-        source = refill(fd, window, source);
+        source = refill(file, window, source);
         let at = source.at;
         let end = source.end;
         let n = size_of(&window[at..end]);
         if n == 0 {
-            return ended(course, source);
+            return ended(stdout, course, source);
         }
         let next = at + n;
-        course = turn(plain, other, source.place, &window[at..next], cuts, course);
+        course = turn(
+            stdout,
+            plain,
+            other,
+            source.place,
+            &window[at..next],
+            cuts,
+            course,
+        );
         source = passed(source, n);
         say_progress(course, source.place);
     }
@@ -80,7 +99,13 @@ fn run_in(fd: i32, window: &mut [u8], plain: &mut [u8], other: &mut [u8], cuts: 
 }
 
 // Reads the whole file.
-pub fn run(fd: i32, plain: &mut [u8], other: &mut [u8], cuts: Cuts) -> Course {
+pub fn run<R: Read>(
+    stdout: Stdout,
+    file: &mut R,
+    plain: &mut [u8],
+    other: &mut [u8],
+    cuts: Cuts,
+) -> Course {
     let mut window = [0u8; 262144];
-    run_in(fd, &mut window, plain, other, cuts)
+    run_in(stdout, file, &mut window, plain, other, cuts)
 }

@@ -2,6 +2,7 @@
 ghost use Rattle.std.specs.Prelude.{◌≡◌, ◌+◌, ◌<◌};
 
 use crate::verdicts::{is_same, say_change, say_record};
+use std::io::{Error, Stdout};
 use steps::{Said, cut, give};
 use tool_arguments::Cuts;
 use tool_parting::snapshots::same_snapshots;
@@ -10,15 +11,15 @@ use tool_words::say;
 // No file has so many records.
 pub const MOST: u64 = 0x7fff_ffff_ffff_ffff;
 
-// How many records and restarts there were, and what the restarts changed: verdicts, and the snapshot behind a record. `read`: no read of the
-// file failed. `written`: nor a write of what was said, behind which nothing more is done.
+// How many records and restarts there were, and what the restarts changed: verdicts, and the snapshot behind a record. `failed`: why a read of
+// the file failed, if one did. `written`: no write of what was said did, behind which nothing more is done.
 #[derive(Clone, Copy)]
 pub struct Course {
     pub records: u64,
     pub restarts: u64,
     pub verdicts: u64,
     pub snapshots: u64,
-    pub read: bool,
+    pub failed: Option<Error>,
     pub written: bool,
 }
 
@@ -31,7 +32,7 @@ pub fn fresh() -> Course
         restarts: 0,
         verdicts: 0,
         snapshots: 0,
-        read: true,
+        failed: None,
         written: true,
     }
 }
@@ -55,17 +56,18 @@ fn counted(course: Course, written: bool) -> Course
 }
 
 // One more verdict that the restarts changed.
-fn changed(course: Course, after: Said) -> Course
+fn changed(stdout: Stdout, course: Course, after: Said) -> Course
     ensures { result.records ≡ course.records }
 {
     let mut next = course;
     next.verdicts = more_by_one(course.verdicts);
-    next.written = say_change(after);
+    next.written = say_change(stdout, after);
     next
 }
 
 // Gives the record to the other image, where a restart is asked for.
 fn with_verdict(
+    stdout: Stdout,
     other: &mut [u8],
     offset: u64,
     rec: &[u8],
@@ -82,20 +84,20 @@ fn with_verdict(
     if is_same(said, after) {
         return course;
     }
-    changed(course, after)
+    changed(stdout, course, after)
 }
 
 // A restart behind the last record, or that there was no image.
-fn restarted(course: Course, made: bool) -> Course
+fn restarted(stdout: Stdout, course: Course, made: bool) -> Course
     ensures { result.records ≡ course.records }
 {
     let mut next = course;
     if !made {
-        next.written = say(b"  no restart: there is no image\n");
+        next.written = say(stdout, b"  no restart: there is no image\n");
         return next;
     }
     next.restarts = more_by_one(course.restarts);
-    next.written = say(b"  restart\n");
+    next.written = say(stdout, b"  restart\n");
     next
 }
 
@@ -104,14 +106,14 @@ fn is_due(course: Course, cuts: Cuts) -> bool {
 }
 
 // Restarts the second image where that is due.
-fn with_restart(other: &mut [u8], cuts: Cuts, course: Course) -> Course
+fn with_restart(stdout: Stdout, other: &mut [u8], cuts: Cuts, course: Course) -> Course
     ensures { result.records ≡ course.records }
 {
     if !is_due(course, cuts) {
         return course;
     }
     let mut out = io::large_buffer();
-    restarted(course, cut(other, &mut out))
+    restarted(stdout, course, cut(other, &mut out))
 }
 
 // What comparing the snapshots gave.
@@ -127,7 +129,7 @@ fn compared(course: Course, same: bool, written: bool) -> Course
 }
 
 // Compares the snapshots, once there was a restart.
-fn with_snapshots(plain: &[u8], other: &[u8], course: Course) -> Course
+fn with_snapshots(stdout: Stdout, plain: &[u8], other: &[u8], course: Course) -> Course
     ensures { result.records ≡ course.records }
 {
     if !course.written || course.restarts == 0 {
@@ -135,13 +137,14 @@ fn with_snapshots(plain: &[u8], other: &[u8], course: Course) -> Course
     }
     let mut out = io::large_buffer();
     let mut more = io::large_buffer();
-    let answer = same_snapshots(plain, other, &mut out, &mut more);
+    let answer = same_snapshots(stdout, plain, other, &mut out, &mut more);
     compared(course, answer.same, answer.written)
 }
 
 // One record: its verdicts, the restart behind it, and the snapshots once there was one. Its log offset is the number of records before it,
 // refused or not.
 pub fn turn(
+    stdout: Stdout,
     plain: &mut [u8],
     other: &mut [u8],
     place: u64,
@@ -154,8 +157,8 @@ pub fn turn(
 {
     let offset = course.records;
     let said = give(plain, offset, rec);
-    let first = counted(course, say_record(place, rec, said));
-    let second = with_verdict(other, offset, rec, said, cuts, first);
-    let third = with_restart(other, cuts, second);
-    with_snapshots(plain, other, third)
+    let first = counted(course, say_record(stdout, place, rec, said));
+    let second = with_verdict(stdout, other, offset, rec, said, cuts, first);
+    let third = with_restart(stdout, other, cuts, second);
+    with_snapshots(stdout, plain, other, third)
 }

@@ -3,6 +3,7 @@ ghost use Rattle.std.specs.Prelude.{◌≤◌, ◌<◌, length};
 
 use crate::records_apart::{key_tag, same_key, say_fields};
 use crate::snapshots::end_of;
+use std::io::Stdout;
 use tool_subjects::say_subject;
 use tool_words::say;
 
@@ -14,33 +15,35 @@ struct Taken {
 }
 
 // The line of a record that only one of the snapshots has.
-fn say_alone(rec: &[u8], words: &[u8]) -> bool {
-    say(b"  after the restart: ") && say_subject(rec) && say(words)
+fn say_alone(stdout: Stdout, rec: &[u8], words: &[u8]) -> bool {
+    say(stdout, b"  after the restart: ") && say_subject(stdout, rec) && say(stdout, words)
 }
 
 // The line of a record that the other snapshot has otherwise.
-fn say_other(rec: &[u8], other: &[u8]) -> bool {
+fn say_other(stdout: Stdout, rec: &[u8], other: &[u8]) -> bool {
     if rec.len() < 3 {
         return true;
     }
     if other.len() < 3 {
         return true;
     }
-    if !say_alone(rec, b"") {
+    if !say_alone(stdout, rec, b"") {
         return false;
     }
     if key_tag(rec[0]) == 0 {
-        return say(b" is ") && say_subject(other) && say(b"\n");
+        return say(stdout, b" is ") && say_subject(stdout, other) && say(stdout, b"\n");
     }
-    say(b" differs in") && say_fields(rec[0], &rec[3..], &other[3..]) && say(b"\n")
+    say(stdout, b" differs in")
+        && say_fields(stdout, rec[0], &rec[3..], &other[3..])
+        && say(stdout, b"\n")
 }
 
 // Says of each record that only the other snapshot has it.
-fn say_new(records: &[u8]) -> bool {
+fn say_new(stdout: Stdout, records: &[u8]) -> bool {
     let mut at = 0;
     while at < records.len() {
         let end = end_of(records, at);
-        if !say_alone(&records[at..end], b" is new\n") {
+        if !say_alone(stdout, &records[at..end], b" is new\n") {
             return false;
         }
         at = end;
@@ -65,38 +68,38 @@ fn seek_key(records: &[u8], from: usize, rec: &[u8]) -> usize
 }
 
 // A record that both snapshots have: the other one's between the last one taken and it are new.
-fn with_both(rec: &[u8], other: &[u8], taken: Taken, at: usize) -> Taken
+fn with_both(stdout: Stdout, rec: &[u8], other: &[u8], taken: Taken, at: usize) -> Taken
     requires { (taken.to ≤ at) × (at < length other.now) }
     ensures { result.to ≤ length other.now }
 {
     let from = taken.to;
     let to = end_of(other, at);
-    if !say_new(&other[from..at]) {
+    if !say_new(stdout, &other[from..at]) {
         return Taken { to, written: false };
     }
     if wire::same(rec, &other[at..to]) {
         return Taken { to, written: true };
     }
-    let written = say_other(rec, &other[at..to]);
+    let written = say_other(stdout, rec, &other[at..to]);
     Taken { to, written }
 }
 
 // A record of the first snapshot.
-fn with_record(rec: &[u8], other: &[u8], taken: Taken) -> Taken
+fn with_record(stdout: Stdout, rec: &[u8], other: &[u8], taken: Taken) -> Taken
     requires { taken.to ≤ length other.now }
     ensures { result.to ≤ length other.now }
 {
     let at = seek_key(other, taken.to, rec);
     if other.len() <= at {
         let to = taken.to;
-        let written = say_alone(rec, b" is gone\n");
+        let written = say_alone(stdout, rec, b" is gone\n");
         return Taken { to, written };
     }
-    with_both(rec, other, taken, at)
+    with_both(stdout, rec, other, taken, at)
 }
 
 // Says every difference.
-pub fn say_differences(records: &[u8], other: &[u8]) -> bool {
+pub fn say_differences(stdout: Stdout, records: &[u8], other: &[u8]) -> bool {
     let mut taken = Taken {
         to: 0,
         written: true,
@@ -104,12 +107,12 @@ pub fn say_differences(records: &[u8], other: &[u8]) -> bool {
     let mut at = 0;
     while at < records.len() {
         let end = end_of(records, at);
-        taken = with_record(&records[at..end], other, taken);
+        taken = with_record(stdout, &records[at..end], other, taken);
         if !taken.written {
             return false;
         }
         at = end;
     }
     let from = taken.to;
-    say_new(&other[from..])
+    say_new(stdout, &other[from..])
 }

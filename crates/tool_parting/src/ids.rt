@@ -5,6 +5,7 @@ use crate::snapshots::{end_of, more_by_one, take_snapshot};
 use keys::value_at;
 use model::answers::Answer;
 use model::kinds::TOPIC;
+use std::io::Stdout;
 use tool_subjects::say_subject;
 use tool_words::say;
 
@@ -56,20 +57,20 @@ pub struct Apart {
 }
 
 // A record, which is said where it is such a topic.
-fn with_record(plain: &[u8], other: &[u8], rec: &[u8], seen: Apart) -> Apart {
+fn with_record(stdout: Stdout, plain: &[u8], other: &[u8], rec: &[u8], seen: Apart) -> Apart {
     if !is_renamed(plain, other, rec) {
         return seen;
     }
     Apart {
         count: more_by_one(seen.count),
-        written: say(b"  after the restart: the id of ")
-            && say_subject(rec)
-            && say(b" names another topic\n"),
+        written: say(stdout, b"  after the restart: the id of ")
+            && say_subject(stdout, rec)
+            && say(stdout, b" names another topic\n"),
     }
 }
 
 // How many of the records are such topics; says each.
-fn count_renamed(plain: &[u8], other: &[u8], records: &[u8]) -> Apart {
+fn count_renamed(stdout: Stdout, plain: &[u8], other: &[u8], records: &[u8]) -> Apart {
     let mut seen = Apart {
         count: 0,
         written: true,
@@ -77,7 +78,7 @@ fn count_renamed(plain: &[u8], other: &[u8], records: &[u8]) -> Apart {
     let mut at = 0;
     while at < records.len() {
         let end = end_of(records, at);
-        seen = with_record(plain, other, &records[at..end], seen);
+        seen = with_record(stdout, plain, other, &records[at..end], seen);
         if !seen.written {
             return seen;
         }
@@ -87,7 +88,7 @@ fn count_renamed(plain: &[u8], other: &[u8], records: &[u8]) -> Apart {
 }
 
 // How many topics' ids name another topic in the second image; says each.
-pub fn renamed(plain: &[u8], other: &[u8], out: &mut [u8]) -> Apart {
+pub fn renamed(stdout: Stdout, plain: &[u8], other: &[u8], out: &mut [u8]) -> Apart {
     let n = take_snapshot(plain, out);
-    count_renamed(plain, other, &out[..n])
+    count_renamed(stdout, plain, other, &out[..n])
 }

@@ -3,6 +3,7 @@ ghost use Rattle.std.specs.Prelude.{◌≤◌, length};
 
 use fields::{Cursor, Step};
 use model::kinds;
+use std::io::Stdout;
 use tool_words::names::say_field_name;
 use tool_words::parts::part_of;
 use tool_words::say;
@@ -93,18 +94,18 @@ fn same_values(run: &[u8], other: &[u8], tag: usize) -> bool {
 }
 
 // Says a field's name where two bodies of a kind differ in it.
-fn say_if_apart(kind: u8, run: &[u8], other: &[u8], tag: u8) -> bool {
+fn say_if_apart(stdout: Stdout, kind: u8, run: &[u8], other: &[u8], tag: u8) -> bool {
     if same_values(run, other, wire::size(tag)) {
         return true;
     }
-    say(b" ") && say_field_name(kind, tag)
+    say(stdout, b" ") && say_field_name(stdout, kind, tag)
 }
 
 // Says the names of the fields in which two bodies of a kind differ.
-pub fn say_fields(kind: u8, run: &[u8], other: &[u8]) -> bool {
+pub fn say_fields(stdout: Stdout, kind: u8, run: &[u8], other: &[u8]) -> bool {
     let mut tag = 1;
     while tag <= FIELDS {
-        if !say_if_apart(kind, run, other, tag) {
+        if !say_if_apart(stdout, kind, run, other, tag) {
             return false;
         }
         tag += 1;

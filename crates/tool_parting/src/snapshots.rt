@@ -6,6 +6,7 @@ ghost use Rattle.model.specs.History.{written};
 
 use crate::differences::say_differences;
 use model::answers::Answer;
+use std::io::Stdout;
 
 // Takes a snapshot. How many bytes it has, 0 where it is refused.
 pub fn take_snapshot(image: &[u8], out: &mut [u8]) -> usize
@@ -52,7 +53,7 @@ pub struct Compared {
 }
 
 // Whether two snapshots have the same records; where not, says every difference.
-fn same_records(records: &[u8], other: &[u8]) -> Compared
+fn same_records(stdout: Stdout, records: &[u8], other: &[u8]) -> Compared
     ensures { result.same ≡ same_bytes records.now other.now }
 {
     let same = wire::same(records, other);
@@ -64,15 +65,21 @@ fn same_records(records: &[u8], other: &[u8]) -> Compared
     }
     Compared {
         same,
-        written: say_differences(records, other),
+        written: say_differences(stdout, records, other),
     }
 }
 
 // Whether two images have the same snapshot; where not, says every difference.
-pub fn same_snapshots(plain: &[u8], other: &[u8], out: &mut [u8], more: &mut [u8]) -> Compared
+pub fn same_snapshots(
+    stdout: Stdout,
+    plain: &[u8],
+    other: &[u8],
+    out: &mut [u8],
+    more: &mut [u8],
+) -> Compared
     ensures { result.same ≡ same_bytes (written (snapshot_of plain.now out.old)) (written (snapshot_of other.now more.old)) }
 {
     let n = take_snapshot(plain, out);
     let m = take_snapshot(other, more);
-    same_records(&out[..n], &more[..m])
+    same_records(stdout, &out[..n], &more[..m])
 }

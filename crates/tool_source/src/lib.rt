@@ -3,7 +3,10 @@
 
 ghost use Rattle.std.specs.Prelude.{◌≡◌, ◌+◌, ◌≤◌, length};
 
-use libc::STDERR_FILENO;
+use std::io::{Error, Read};
+
+// Standard error's number.
+const STDERR: i32 = 2;
 
 // The most bytes of a record: three, and a body whose length has two bytes.
 const RECORD: usize = 65538;
@@ -15,14 +18,14 @@ const FAR: u64 = 0x7fff_ffff_ffff_ffff;
 const PROGRESS: u64 = 100000;
 
 // The window's bytes from `at` to `end` are still to be taken; the first of them is the file's byte `place`. `more`: the file may have more.
-// `failed`: a read failed, and nothing is to be taken any more.
+// `failed`: why a read failed, and nothing is to be taken any more.
 #[derive(Drop)]
 pub struct Source {
     pub at: usize,
     pub end: usize,
     pub place: u64,
     pub more: bool,
-    pub failed: bool,
+    pub failed: Option<Error>,
 }
 
 // Before the file's first byte.
@@ -34,7 +37,7 @@ pub fn start() -> Source
         end: 0,
         place: 0,
         more: true,
-        failed: false,
+        failed: None,
     }
 }
 
@@ -50,11 +53,11 @@ fn slide(window: &mut [u8], at: usize, end: usize)
 }
 
 // No more bytes come: the file ended, or could not be read. Of a file that could not, nothing more is taken.
-fn ended(end: usize, place: u64, failed: bool) -> Source
+fn ended(end: usize, place: u64, failed: Option<Error>) -> Source
     ensures { (result.at ≡ 0) × (result.end ≤ end) }
 {
     let mut left = end;
-    if failed {
+    if failed.is_some() {
         left = 0;
     }
     Source {
@@ -66,31 +69,30 @@ fn ended(end: usize, place: u64, failed: bool) -> Source
     }
 }
 
-// Reads behind the window's first bytes until a whole record is there, the file ends or a read fails: what C's read answers is then negative.
-fn fill(fd: i32, window: &mut [u8], left: usize, place: u64) -> Source
+// Reads behind the window's first bytes until a whole record is there, the file ends or a read fails.
+fn fill<R: Read>(file: &mut R, window: &mut [u8], left: usize, place: u64) -> Source
     requires { left ≤ length window.old }
     ensures { (result.at ≤ result.end) × (result.end ≤ length window.old) }
 {
     let mut end = left;
     while end < RECORD {
-        let got = libc::read(fd, &mut window[end..]);
-        let n = io::count(got, &window[end..]);
-        if n == 0 {
-            return ended(end, place, got < 0);
+        match file.read(&mut window[end..]) {
+            Ok(0) => return ended(end, place, None),
+            Ok(n) => end += n,
+            Err(error) => return ended(end, place, Some(error)),
         }
-        end += n;
     }
     Source {
         at: 0,
         end,
         place,
         more: true,
-        failed: false,
+        failed: None,
     }
 }
 
 // Fills the window where it may not have a whole record.
-pub fn refill(fd: i32, window: &mut [u8], source: Source) -> Source
+pub fn refill<R: Read>(file: &mut R, window: &mut [u8], source: Source) -> Source
     requires { (source.at ≤ source.end) × (source.end ≤ length window.old) }
     ensures { (result.at ≤ result.end) × (result.end ≤ length window.old) }
 {
@@ -99,7 +101,7 @@ pub fn refill(fd: i32, window: &mut [u8], source: Source) -> Source
         return source;
     }
     slide(window, source.at, source.end);
-    fill(fd, window, left, source.place)
+    fill(file, window, left, source.place)
 }
 
 // The source after so many bytes more are taken.
@@ -125,8 +127,8 @@ pub fn print_progress(records: u64, place: u64) {
     if records % PROGRESS != 0 {
         return;
     }
-    io::print_decimal(STDERR_FILENO, records);
-    io::write_all(STDERR_FILENO, b" records, ");
-    io::print_decimal(STDERR_FILENO, place);
-    io::write_all(STDERR_FILENO, b" bytes\n");
+    io::print_decimal(STDERR, records);
+    io::write_all(STDERR, b" records, ");
+    io::print_decimal(STDERR, place);
+    io::write_all(STDERR, b" bytes\n");
 }

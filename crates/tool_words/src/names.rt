@@ -2,6 +2,7 @@
 ghost use Rattle.std.specs.Prelude.{◌≤◌, length};
 
 use crate::{complain, say};
+use std::io::Stdout;
 
 // Where the piece that begins at a place ends, pieces being parted by a byte.
 fn piece_end(text: &[u8], at: usize, by: u8) -> usize
@@ -36,15 +37,15 @@ fn piece_start(text: &[u8], number: u8, by: u8) -> usize
 }
 
 // The piece of a number.
-fn say_piece(text: &[u8], number: u8, by: u8) -> bool {
+fn say_piece(stdout: Stdout, text: &[u8], number: u8, by: u8) -> bool {
     let at = piece_start(text, number, by);
     let end = piece_end(text, at, by);
-    say(&text[at..end])
+    say(stdout, &text[at..end])
 }
 
 // The line of a number.
-pub fn say_line(lines: &[u8], number: u8) -> bool {
-    say_piece(lines, number, b'\n')
+pub fn say_line(stdout: Stdout, lines: &[u8], number: u8) -> bool {
+    say_piece(stdout, lines, number, b'\n')
 }
 
 // The line of a number, on standard error.
@@ -55,15 +56,16 @@ pub fn complain_line(lines: &[u8], number: u8) {
 }
 
 // A word of the line of a number.
-fn say_word(lines: &[u8], number: u8, word: u8) -> bool {
+fn say_word(stdout: Stdout, lines: &[u8], number: u8, word: u8) -> bool {
     let at = piece_start(lines, number, b'\n');
     let end = piece_end(lines, at, b'\n');
-    say_piece(&lines[at..end], word, b' ')
+    say_piece(stdout, &lines[at..end], word, b' ')
 }
 
 // The name of a kind, as the Rust has it.
-pub fn say_kind(kind: u8) -> bool {
+pub fn say_kind(stdout: Stdout, kind: u8) -> bool {
     say_line(
+        stdout,
         b"no kind\n\
         Topic\n\
         Partition\n\
@@ -97,8 +99,9 @@ pub fn say_kind(kind: u8) -> bool {
 }
 
 // What a number says.
-pub fn say_verdict(number: u8) -> bool {
+pub fn say_verdict(stdout: Stdout, number: u8) -> bool {
     say_line(
+        stdout,
         b"accepted\n\
         no image, or no capacity for one\n\
         the record runs past the end of the file\n\
@@ -130,8 +133,9 @@ pub fn say_verdict(number: u8) -> bool {
 }
 
 // The name of a kind's field, by its tag.
-pub fn say_field_name(kind: u8, tag: u8) -> bool {
+pub fn say_field_name(stdout: Stdout, kind: u8, tag: u8) -> bool {
     say_word(
+        stdout,
         b"no field\n\
         field name topic_id partitions replication_factor\n\
         field topic partition leader replicas isr leader_epoch adding_replicas removing_replicas directories partition_epoch\n\

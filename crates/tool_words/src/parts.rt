@@ -5,6 +5,7 @@ use crate::{say, say_digits, say_name, say_of};
 use fields::{Cursor, Found};
 use keys::Part;
 use reader::field;
+use std::io::Stdout;
 
 // Where the value of a field stands, nothing at the start where there is none.
 pub fn part_of(run: &[u8], tag: usize) -> Part
@@ -30,11 +31,11 @@ pub fn has(run: &[u8], tag: usize) -> bool {
 }
 
 // The name in a field, none where it is not there.
-pub fn say_text(run: &[u8], tag: usize) -> bool {
+pub fn say_text(stdout: Stdout, run: &[u8], tag: usize) -> bool {
     let p = part_of(run, tag);
     let start = p.start;
     let end = p.end;
-    say_name(&run[start..end])
+    say_name(stdout, &run[start..end])
 }
 
 // The number that a field of at most eight bytes spells, 0 where there is none.
@@ -49,8 +50,8 @@ pub fn number_in(run: &[u8], tag: usize) -> u64 {
 }
 
 // A word, and the number of a field behind it.
-pub fn say_number_in(words: &[u8], run: &[u8], tag: usize) -> bool {
-    say_of(words, number_in(run, tag))
+pub fn say_number_in(stdout: Stdout, words: &[u8], run: &[u8], tag: usize) -> bool {
+    say_of(stdout, words, number_in(run, tag))
 }
 
 // The first number of a width that is negative when signed.
@@ -63,25 +64,25 @@ fn half_of(width: usize) -> u64 {
 }
 
 // A word, and the signed number of a field of two, four or eight bytes behind it.
-pub fn say_signed_in(words: &[u8], run: &[u8], tag: usize) -> bool {
+pub fn say_signed_in(stdout: Stdout, words: &[u8], run: &[u8], tag: usize) -> bool {
     let p = part_of(run, tag);
     let n = number_in(run, tag);
     let half = half_of(p.end - p.start);
     if n < half {
-        return say_of(words, n);
+        return say_of(stdout, words, n);
     }
     if half < n - half {
-        return say_of(words, n);
+        return say_of(stdout, words, n);
     }
-    say(words) && say_of(b"-", half - (n - half))
+    say(stdout, words) && say_of(stdout, b"-", half - (n - half))
 }
 
 // The sixteen bytes of an id as digits.
-pub fn say_id(run: &[u8], tag: usize) -> bool {
+pub fn say_id(stdout: Stdout, run: &[u8], tag: usize) -> bool {
     let p = part_of(run, tag);
     let start = p.start;
     if p.end - start != 16 {
         return true;
     }
-    say_digits(wire::get(run, start, 8)) && say_digits(wire::get(run, start + 8, 8))
+    say_digits(stdout, wire::get(run, start, 8)) && say_digits(stdout, wire::get(run, start + 8, 8))
 }

@@ -1,11 +1,9 @@
 -- `tool_source::fill` stays in its window, and ends: each read that goes on brings bytes.
-use Prim.Native.Nat.{◌-◌, ◌≤◌}
-use mathlib.Core.Path.{◌≡◌}
-use lib.ListN.{length}
+use Rattle.std.proofs.Common.{◌≡◌, ◌-◌, ◌≤◌, length}
 use Rattle.tool_source.proofs.fill.Given as goal
 
 abbrev pub invariant-loop-end : goal.invariant-loop-end
-invariant-loop-end l = (length l.window ≡ length l.initial.window) × (l.end ≤ length l.window)
+invariant-loop-end g l = (length l.window ≡ length l.initial.window) × (l.end ≤ length l.window)
 
 abbrev pub decreases-loop-end : goal.decreases-loop-end
-decreases-loop-end l = 65538 - l.end
+decreases-loop-end g l = 65538 - l.end

@@ -1,7 +1,5 @@
 -- `tool_source::slide` stays in its window, and ends.
-use Prim.Native.Nat.{◌-◌, ◌≤◌}
-use mathlib.Core.Path.{◌≡◌}
-use lib.ListN.{length}
+use Rattle.std.proofs.Common.{◌≡◌, ◌-◌, ◌≤◌, length}
 use Rattle.tool_source.proofs.slide.Given as goal
 
 abbrev pub invariant-loop-i : goal.invariant-loop-i
