@@ -5,4 +5,4 @@ use Rattle.jeghatuf.proofs.images.jeghatuf_open.Goals as goal
 pub returns : goal.returns
 returns c =
     let e = c.«open».ensures in
-    record { value = packed-number c.alone.ensures e.0; buffer_after = e.1 }
+    record { value = packed-number c.alone.ensures e.result_value; buffer_after = e.b_after }
