@@ -21,6 +21,9 @@ const RECORD_LIMIT: usize = 8;
 
 const LENGTH_LIMIT: usize = 4;
 
+// No records have no histories.
+const NO_RECORDS: usize = 0;
+
 // How many records there are, or the refusal of the first at fault.
 #[derive(Clone, Copy)]
 enum Count {
@@ -167,7 +170,7 @@ pub fn history(input: &[u8], number: u64, out: &mut [u8]) -> Answer
     match count_records(&rows, input) {
         Count::Refused(refusal) => Answer::Refused(refusal),
         Count::Records(n) => {
-            if n == 0 {
+            if n == NO_RECORDS {
                 return Answer::Refused(OVER_A_LIMIT);
             }
             match find_history(n, number as usize) {

@@ -1,5 +1,6 @@
 -- `restore_copy::is_steady` meets its contract.
 use mathlib.Core.Path.{sym, ◌∙◌}
+use borrow.Author.Rules.{rules}
 use native.Mathlib.Omega.{arith}
 use borrow.Author.Tests.{not-false}
 use Rattle.model.specs.Number.{AreBytes}
@@ -69,7 +70,7 @@ pub returns-then-epoch-lt-NEGATIVE : goal.returns-then-epoch-lt-NEGATIVE
 returns-then-epoch-lt-NEGATIVE c =
     let bytes_in : AreBytes c.args.image.now = known_bytes c.args.image.now (λ i. omega (arith, c.type_inv.image i)) in
     raised c.args.image.now bytes_in c.requires c.used_in-used.ensures.0 c.tail_start.ensures c.if-tail_start-used.false
-    (sym c.is_settled.ensures ∙ not-false _ c.if-not-is_settled.false-raw) c.epoch_in-epoch.ensures c.if-epoch-lt-NEGATIVE.true
+    (sym c.is_settled.ensures ∙ not-false c.is_settled.result (search rules)) c.epoch_in-epoch.ensures c.if-epoch-lt-NEGATIVE.true
 
 pub slice_bounds-has_no_level-count : goal.slice_bounds-has_no_level-count
 slice_bounds-has_no_level-count c =
@@ -95,4 +96,4 @@ pub returns : goal.returns
 returns c =
     let bytes_in : AreBytes c.args.image.now = known_bytes c.args.image.now (λ i. omega (arith, c.type_inv.image i)) in
     unraised_as c.args.image.now bytes_in c.requires c.used_in-used.ensures.0 c.tail_start.ensures c.if-tail_start-used.false
-    (sym c.is_settled.ensures ∙ not-false _ c.if-not-is_settled.false-raw) c.epoch_in-epoch.ensures c.if-epoch.false _ c.has_no_level.ensures
+    (sym c.is_settled.ensures ∙ not-false c.is_settled.result (search rules)) c.epoch_in-epoch.ensures c.if-epoch.false _ c.has_no_level.ensures
