@@ -9,7 +9,7 @@ use lib.Dec.{eqb}
 use lib.ListN.{get_or, get_elem?}
 use Rattle.model.specs.Choice.{given}
 use Rattle.model.specs.Kind.{kind_of, kinds}
-use Rattle.model.specs.Shape.{Row, record_of_lem, fixed, required, rows_of, row_at}
+use Rattle.model.specs.Shape.{Row, record_of, fixed, required, rows_of, row_at}
 use Rattle.model.specs.declared.Kind.{Kind}
 use Rattle.model.specs.declared.Kind.TheVariants.{Topic, Partition, BrokerRegistration, DeleteTopic, TopicConfig, BrokerConfig, ClientQuota, ProducerIds, UnregisterBroker, KRaftVersion, FeatureLevel, ClientMetricsConfig, FeaturesEpoch, PartitionDirAssignment}
 use Rattle.model.specs.declared.Kind.TheVariants.{PartitionOffsetAdvance, GroupConfig, ControllerRegistration, TopicFreeze, BreakGlassProposal, DeleteBreakGlassProposal, PartitionElr, PartitionRecovery, PartitionUpdate, BrokerRegistrationChange, UnregisterController, LogOffset}
@@ -36,7 +36,7 @@ tag_past zero h = refl
 tag_past (suc n) h = rw (get_elem?_past kinds n (omega arith))
 
 -- by the table: where a kind has a node, the field is there, and has eight bytes
-pub node_row : (k : Kind) → row_at (rows_of (record_of_lem k)) (node_tag k) ≡ cond (eqb (node_tag k) 0) none (some (record { form = fixed 8; presence = required }))
+pub node_row : (k : Kind) → row_at (rows_of (record_of k)) (node_tag k) ≡ cond (eqb (node_tag k) 0) none (some (record { form = fixed 8; presence = required }))
 unfolding node_tag rows_of
 node_row Topic = refl
 node_row Partition = refl

@@ -2,7 +2,7 @@
 --
 --   the records, the buffers ............................. Inputs
 --   M1 to M10 ............................................ Cases.marked-cases
---   each premise of the theorem is needed ................. Needed.premises-needed
+--   each premise of the theorem is needed ................. Needed.premises_needed
 pub mod Inputs
 pub mod Cases
 pub mod Needed

@@ -9,8 +9,8 @@ use Rattle.model.specs.Number.{Bytes, AreBytes}
 use Rattle.model.specs.Order.{Key, compare_keys, ordering}
 use Rattle.model.specs.Record.{record_bytes}
 use Rattle.model.specs.Contents.{record_key}
-use Rattle.model.specs.declared.Order.{Order}
-use Rattle.model.specs.declared.Order.TheVariants.{Less, Equal, Greater}
+use Rattle.std.specs.declared.cmp.Ordering.{Ordering as Order}
+use Rattle.std.specs.declared.cmp.Ordering.TheVariants.{Less, Equal, Greater}
 use Rattle.laws.specs.Choice.{impossible}
 use Rattle.keys.specs.Keys.{key_in, Keyed}
 use Rattle.keys.proofs.Found.{lent_slice}

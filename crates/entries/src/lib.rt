@@ -11,7 +11,7 @@ ghost use Rattle.keys.specs.Keys.{key_in, Keyed};
 ghost use Rattle.entries.specs.Entries.{records_in, Entries, step_at, Placed, IsRecord, record_in, Changed};
 
 use keys::compare_keys;
-use model::Order;
+use std::cmp::Ordering;
 pub use topics::remove_topic;
 
 // Where the next entry begins.
@@ -68,13 +68,13 @@ pub fn seek(s: &[u8], probe: &[u8]) -> Place
     loop {
         match c.next(s) {
             Step::Entry(start, end, next) => match compare_keys(&s[start..end], probe) {
-                Order::Less => {
+                Ordering::Less => {
                     c = next;
                 }
-                Order::Equal => {
+                Ordering::Equal => {
                     return Place { at: start, end };
                 }
-                Order::Greater => {
+                Ordering::Greater => {
                     return Place {
                         at: start,
                         end: start,

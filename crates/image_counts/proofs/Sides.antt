@@ -14,7 +14,7 @@ use Rattle.model.specs.Key.{rank, subject, key_of, key_rank, key_name}
 use Rattle.model.specs.Map.{count}
 use Rattle.model.specs.Contents.{record_key, of_topic}
 use Rattle.model.specs.declared.Kind.TheVariants.{Partition}
-use Rattle.model.specs.declared.Order.{Order}
+use Rattle.std.specs.declared.cmp.Ordering.{Ordering as Order}
 use Rattle.laws.specs.Choice.{impossible}
 use Rattle.laws.specs.Order.{lt≢eq, lt≢gt, compare-lt, compare_eq, compare_gt, lt-compare, gt_compare, eq_compare, lt_gt, gt_lt, bytes-total, Lt, lt-rank}
 use Rattle.laws.specs.Lists.{all_imp}

@@ -11,8 +11,8 @@ use Rattle.model.specs.Order.{compare_bytes, ordering}
 use Rattle.model.specs.Record.{Rec}
 use Rattle.model.specs.Map.{count, ascending}
 use Rattle.model.specs.Contents.{record_key, of_topic}
-use Rattle.model.specs.declared.Order.{Order}
-use Rattle.model.specs.declared.Order.TheVariants.{Less, Equal, Greater}
+use Rattle.std.specs.declared.cmp.Ordering.{Ordering as Order}
+use Rattle.std.specs.declared.cmp.Ordering.TheVariants.{Less, Equal, Greater}
 use Rattle.laws.specs.Order.{lt≢gt, eq≢gt}
 use Rattle.laws.specs.Map.{Asc, ascending_asc, asc_ascending}
 use Rattle.keys.specs.Keys.{key_in}

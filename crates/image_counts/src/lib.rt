@@ -13,20 +13,20 @@ ghost use Rattle.image_counts.specs.Counts.{count_fits, beside_topic, Counted};
 
 use entries::{Cursor, Step};
 use keys::{number_at, rank_of, value_at};
-use model::Order;
 use model::kinds::TOPIC;
+use std::cmp::Ordering;
 
 // How an entry stands to the partitions of a topic: before them, among them or after them. Partitions have the rank 5.
-pub fn beside(e: &[u8], name: &[u8]) -> Order
+pub fn beside(e: &[u8], name: &[u8]) -> Ordering
     requires { Keyed e.now }
     ensures { ordering result ≡ beside_topic name.now (key_in e.now) }
 {
     let rank = rank_of(e[0]);
     if rank < 5 {
-        return Order::Less;
+        return Ordering::Less;
     }
     if 5 < rank {
-        return Order::Greater;
+        return Ordering::Greater;
     }
     let p = value_at(e, 1);
     let start = p.start;
@@ -51,14 +51,14 @@ fn count_of(s: &[u8], name: &[u8]) -> Tally
     loop {
         match c.next(s) {
             Step::Entry(start, end, next) => match beside(&s[start..end], name) {
-                Order::Less => {
+                Ordering::Less => {
                     c = next;
                 }
-                Order::Equal => {
+                Ordering::Equal => {
                     c = next;
                     count += 1;
                 }
-                Order::Greater => {
+                Ordering::Greater => {
                     return Tally { count, end: start };
                 }
             },

@@ -11,8 +11,8 @@ ghost use Rattle.image_entries.specs.Quotas.{EntitiesAs};
 
 use fields::{Cursor, Found, Step};
 use keys::compare_entity;
-use model::Order;
 use reader::field;
+use std::cmp::Ordering;
 
 // Whether the entity at one cursor is below the one at another. None is below nothing, which ends at 0.
 fn is_below(e: &[u8], a: Cursor, b: Cursor) -> bool
@@ -23,9 +23,9 @@ fn is_below(e: &[u8], a: Cursor, b: Cursor) -> bool
         return false;
     }
     match compare_entity(e, a, e, b) {
-        Order::Less => true,
-        Order::Equal => false,
-        Order::Greater => false,
+        Ordering::Less => true,
+        Ordering::Equal => false,
+        Ordering::Greater => false,
     }
 }
 

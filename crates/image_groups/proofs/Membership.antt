@@ -18,7 +18,7 @@ use Rattle.model.specs.Contents.{record_key, group_of, in_group_of, is_group}
 use Rattle.model.specs.Shape.{stored}
 use Rattle.model.specs.declared.Kind.{Kind}
 use Rattle.model.specs.declared.Kind.TheVariants.{ClientQuota}
-use Rattle.model.specs.declared.Order.{Order}
+use Rattle.std.specs.declared.cmp.Ordering.{Ordering as Order}
 use Rattle.laws.specs.Choice.{true_false, not_true_false, and_left}
 use Rattle.laws.specs.Order.{same_bytes_true, same_keys_self, same_keys_true}
 use Rattle.laws_records.specs.Kinds.{kind_number_lem}

@@ -7,7 +7,7 @@ ghost use Rattle.image_groups.specs.Groups.{leading};
 
 use fields::{Cursor, Step};
 use keys::compare_keys;
-use model::Order;
+use std::cmp::Ordering;
 
 // Where the fields of tag 1 that a record begins with end: a config's node, a quota's entities.
 pub fn leading_end(s: &[u8]) -> usize
@@ -49,8 +49,8 @@ pub fn same_group(e: &[u8], g: &[u8]) -> bool
     }
     let n = leading_end(e);
     match compare_keys(&e[..n], g) {
-        Order::Less => false,
-        Order::Equal => true,
-        Order::Greater => false,
+        Ordering::Less => false,
+        Ordering::Equal => true,
+        Ordering::Greater => false,
     }
 }

@@ -11,8 +11,8 @@ use Rattle.model.specs.Order.{compare_keys, ordering, is_below}
 use Rattle.model.specs.Record.{Rec}
 use Rattle.model.specs.Map.{ascending}
 use Rattle.model.specs.Contents.{record_key}
-use Rattle.model.specs.declared.Order.{Order}
-use Rattle.model.specs.declared.Order.TheVariants.{Less, Equal, Greater}
+use Rattle.std.specs.declared.cmp.Ordering.{Ordering as Order}
+use Rattle.std.specs.declared.cmp.Ordering.TheVariants.{Less, Equal, Greater}
 use Rattle.keys.specs.Keys.{key_in, Keyed}
 use Rattle.entries.specs.Entries.{records_in, Entries}
 use Rattle.entries.specs.declared.Cursor.{Cursor}

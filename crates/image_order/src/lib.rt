@@ -11,9 +11,9 @@ ghost use Rattle.entries.specs.Entries.{records_in, Entries};
 
 use entries::{Cursor, Step};
 use keys::compare_keys;
-use model::Order;
 use model::answers::Answer;
 use records::{Source, read_from};
+use std::cmp::Ordering;
 
 // Whether all bytes read as stored records, one after the other, by the table that is lent.
 pub fn all_read(rows: &[u32], s: &[u8]) -> bool
@@ -50,13 +50,13 @@ pub fn ascends(s: &[u8]) -> bool
                     continue;
                 }
                 match compare_keys(&s[prev..start], &s[start..end]) {
-                    Order::Less => {
+                    Ordering::Less => {
                         prev = start;
                     }
-                    Order::Equal => {
+                    Ordering::Equal => {
                         return false;
                     }
-                    Order::Greater => {
+                    Ordering::Greater => {
                         return false;
                     }
                 }

@@ -12,7 +12,7 @@ use Rattle.model.specs.Reply.{Reply, accepted, refused, emit_bytes}
 use Rattle.fields.proofs.Parse.{take-drop}
 use Rattle.records.specs.Answers.{put_at, head}
 use Rattle.records.proofs.Growing.{grow_start, grow, grown}
-use Rattle.kafka_read.specs.Messages.{record_of_lem, EmitsAs}
+use Rattle.kafka_read.specs.Messages.{record_of, EmitsAs}
 
 -- an array that is filled
 pub filled : (out s : Bytes) → length out ≡ length s → put_at out 0 s ≡ s
@@ -37,22 +37,22 @@ module _ (s out : Bytes) (used : ℕ) where
       rw (le-leb (length s) (length out) h) (rw size refl, e.1 ∙ ap (λ m. s ++ drop m out) (zero-add (length s)))
 
 module _ (kind : ℕ) (first second others : Bytes) where
-  length_record : length (record_of_lem kind first second others) ≡ 6 + length first + 3 + length second + length others
+  length_record : length (record_of kind first second others) ≡ 6 + length first + 3 + length second + length others
   length_record =
       omega (arith, length-append first ((head 2 (length second) ++ second) ++ others), length-append second others)
 
   module _ (out : Bytes) (used : ℕ) where
-    pub record-short : length out < 6 + length first + 3 + length second + length others → EmitsAs (record_of_lem kind first second others) used out (refused 19) out
-    record-short h = bytes-short (record_of_lem kind first second others) out used (omega (arith, length_record))
+    pub record-short : length out < 6 + length first + 3 + length second + length others → EmitsAs (record_of kind first second others) used out (refused 19) out
+    record-short h = bytes-short (record_of kind first second others) out used (omega (arith, length_record))
 
     pub record-written : 6 + length first + 3 + length second + length others ≤ length out → {a b c d : Bytes}
         → a ≡ put_at out 0 (head kind (6 + length first + 3 + length second + length others - 3))
         → b ≡ put_at a 3 (head 1 (length first) ++ first)
         → c ≡ put_at b (6 + length first) (head 2 (length second) ++ second)
         → d ≡ put_at c (6 + length first + 3 + length second) others
-        → EmitsAs (record_of_lem kind first second others) used out (accepted ((6 + length first + 3 + length second + length others) ∷ used ∷ [])) d
+        → EmitsAs (record_of kind first second others) used out (accepted ((6 + length first + 3 + length second + length others) ∷ used ∷ [])) d
     record-written h {a} {b} {c} {d} ea eb ec ed =
-        let all = record_of_lem kind first second others in
+        let all = record_of kind first second others in
         let size : 6 + length first + 3 + length second + length others - 3 ≡ 6 + length first + length second + length others = omega arith in
         let one = head 1 (length first) ++ first in
         let two = head 2 (length second) ++ second in
@@ -65,9 +65,9 @@ module _ (kind : ℕ) (first second others : Bytes) where
 
 -- a broker's id as eight bytes, and the part after it
 pub broker_parts : (kind broker : ℕ) (s : Bytes) (at : ℕ) (others out : Bytes) (used : ℕ) {id : Bytes} → id ≡ bytes 8 broker → {r : Reply} {v : Bytes}
-    → EmitsAs (record_of_lem kind id (take (at + 8 - at) (drop at s)) others) used out r v
-    → EmitsAs (record_of_lem kind (bytes 8 broker) (slice at (at + 8) s) others) used out r v
+    → EmitsAs (record_of kind id (take (at + 8 - at) (drop at s)) others) used out r v
+    → EmitsAs (record_of kind (bytes 8 broker) (slice at (at + 8) s) others) used out r v
 broker_parts kind broker s at others out used e {r} {v} d =
     let n : at + (at + 8 - at) ≡ at + 8 = omega arith in
     let part : take (at + 8 - at) (drop at s) ≡ slice at (at + 8) s = take-drop at (at + 8 - at) s ∙ ap (λ k. slice at k s) n in
-    subst (λ b. EmitsAs b used out r v) (ap₂ (λ i p. record_of_lem kind i p others) e part) d
+    subst (λ b. EmitsAs b used out r v) (ap₂ (λ i p. record_of kind i p others) e part) d

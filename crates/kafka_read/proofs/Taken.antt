@@ -23,7 +23,7 @@ use Rattle.kafka_frame.specs.declared.Passed.TheVariants.{To, Refused as NotPass
 use Rattle.kafka_frame.specs.declared.Frame.{Frame}
 use Rattle.kafka_frame.specs.declared.Frame.TheVariants.{Message as FrameOf, Refused as NoFrame}
 use Rattle.kafka_frame.proofs.Frames.{RestAs as FrameAs}
-use Rattle.kafka_read.specs.Messages.{name_taken, NameWithin, RestWithin, RestAs, broker_taken, BrokerWithin, BrokerAs, record_of_lem, EmitsAs, answered, AnswersAs, NamedAs}
+use Rattle.kafka_read.specs.Messages.{name_taken, NameWithin, RestWithin, RestAs, broker_taken, BrokerWithin, BrokerAs, record_of, EmitsAs, answered, AnswersAs, NamedAs}
 use Rattle.kafka_read.specs.declared.message.Name.{Name}
 use Rattle.kafka_read.specs.declared.message.Name.TheVariants.{Text, Refused as NoName}
 use Rattle.kafka_read.specs.declared.message.Broker.{Broker}
@@ -34,9 +34,9 @@ use Rattle.kafka_read.proofs.Emitted.{filled}
 
 -- 1. A record's bytes by its parts
 
-pub record_of : (k : Kind) (v w : Bytes) (others : Run) → record_bytes (rec k (item 1 v (item 2 w others))) ≡ record_of_lem (kind_number k) v w (bytes_of others)
+pub record_is : (k : Kind) (v w : Bytes) (others : Run) → record_bytes (rec k (item 1 v (item 2 w others))) ≡ record_of (kind_number k) v w (bytes_of others)
 unfolding record_bytes bytes_of
-record_of k v w others =
+record_is k v w others =
     let size : length (bytes_of (item 1 v (item 2 w others))) ≡ 6 + length v + length w + length (bytes_of others) =
     omega (arith, length-append v ((head 2 (length w) ++ w) ++ bytes_of others), length-append w (bytes_of others)) in
     ap (λ n. head (kind_number k) n ++ ((head 1 (length v) ++ v) ++ ((head 2 (length w) ++ w) ++ bytes_of others))) size
@@ -105,16 +105,16 @@ module _ (kind width : ℕ) (others : Bytes) (m : NamedAs kind width others) whe
           rest_ends = subst (RestWithin s (end + width)) q g.1
 
           pub named-written : {r : Reply} {v : Bytes}
-              → EmitsAs (record_of_lem kind (take (end - start) (drop start s)) (take (end + width - end) (drop end s)) others) used out r v → AnswersAs s out message r v
+              → EmitsAs (record_of kind (take (end - start) (drop start s)) (take (end + width - end) (drop end s)) others) used out r v → AnswersAs s out message r v
           named-written d =
               let first : take (end - start) (drop start s) ≡ slice start end s =
               (let n : start + (end - start) ≡ end = omega (arith, name_ends.0) in take-drop start (end - start) s ∙ ap (λ k. slice start k s) n) in
               let second : take (end + width - end) (drop end s) ≡ slice end (end + width) s =
               (let n : end + (end + width - end) ≡ end + width = omega arith in take-drop end (end + width - end) s ∙ ap (λ k. slice end k s) n) in
-              let written : record_bytes (named (slice start end s) (slice end (end + width) s)) ≡ record_of_lem kind (take (end - start) (drop start s)) (take (end + width - end) (drop end s)) others =
-              record_of (message_of kind).kind (slice start end s) (slice end (end + width) s) (message_of kind).others
-              ∙ ap₂ (λ k o. record_of_lem k (slice start end s) (slice end (end + width) s) o) m.kind_is m.others_are
-              ∙ ap₂ (λ a b. record_of_lem kind a b others) (sym first) (sym second) in
+              let written : record_bytes (named (slice start end s) (slice end (end + width) s)) ≡ record_of kind (take (end - start) (drop start s)) (take (end + width - end) (drop end s)) others =
+              record_is (message_of kind).kind (slice start end s) (slice end (end + width) s) (message_of kind).others
+              ∙ ap₂ (λ k o. record_of k (slice start end s) (slice end (end + width) s) o) m.kind_is m.others_are
+              ∙ ap₂ (λ a b. record_of kind a b others) (sym first) (sym second) in
               answer-written s out message (named (slice start end s) (slice end (end + width) s)) used
               (rest-taken ∙ ap (onward s (took (named (slice start end s) (slice end (end + width) s)))) q) rest_ends.1 written d
 
@@ -195,11 +195,11 @@ module _ (s out : Bytes) (at : ℕ) (br : Broker) where
   unregistration_end h e = let b = subst (BrokerWithin s (at + 4 + 8)) e h.1 in omega (arith, b.0, b.1)
 
   pub unregistration_written : BrokerAs s at 8 br → {id used : ℕ} → br ≡ Fields id used → {r : Reply} {v : Bytes}
-      → EmitsAs (record_of_lem 9 (bytes 8 id) (slice (at + 4) (at + 4 + 8) s) []) used out r v
+      → EmitsAs (record_of 9 (bytes 8 id) (slice (at + 4) (at + 4 + 8) s) []) used out r v
       → AnswersAs s out (read_message false (message_of 9) (drop at s)) r v
   unfolding kind_number bytes_of
   unregistration_written h {id} {used} e d =
-      broker_written s out at 8 9 unregistered unregistration br h e (record_of UnregisterBroker (bytes 8 id) (slice (at + 4) (at + 4 + 8) s) done) d
+      broker_written s out at 8 9 unregistered unregistration br h e (record_is UnregisterBroker (bytes 8 id) (slice (at + 4) (at + 4 + 8) s) done) d
 
   pub no_producers : BrokerAs s at 16 br → {n : ℕ} → br ≡ NoBroker n → AnswersAs s out (read_message false (message_of 8) (drop at s)) (refused n) out
   no_producers h e = no_broker s out at 16 8 produced producers br h e
@@ -221,7 +221,7 @@ module _ (s out : Bytes) (at : ℕ) (br : Broker) where
     next_long = ap length next_is ∙ length-slice (at + 12) (at + 20) s producers-end ∙ omega arith
 
     pub producers-written : (zeros : Bytes) {tail : Bytes} → length zeros ≡ 11 → tail ≡ take 0 zeros ++ (head 3 (length next) ++ next) ++ drop (0 + length (head 3 (length next) ++ next)) zeros
-        → {r : Reply} {v : Bytes} → EmitsAs (record_of_lem 8 (bytes 8 id) (slice (at + 4) (at + 4 + 8) s) tail) used out r v
+        → {r : Reply} {v : Bytes} → EmitsAs (record_of 8 (bytes 8 id) (slice (at + 4) (at + 4 + 8) s) tail) used out r v
         → AnswersAs s out (read_message false (message_of 8) (drop at s)) r v
     unfolding kind_number bytes_of
     producers-written zeros {tail} long q d =
@@ -232,9 +232,9 @@ module _ (s out : Bytes) (at : ℕ) (br : Broker) where
         let third : drop 8 w ≡ next = drop-drop 8 (at + 4) (take (at + 4 + 16) s) ∙ ap₂ (λ a b. slice a b s) from to ∙ sym next_is in
         let field : tail ≡ head 3 (length next) ++ next = q ∙ filled zeros (head 3 (length next) ++ next) (omega (arith, long, next_long)) in
         broker_written s out at 16 8 produced producers br h e
-        (record_of ProducerIds (bytes 8 id) (take 8 w) (item 3 (drop 8 w) done)
-        ∙ ap₂ (λ a b. record_of_lem 8 (bytes 8 id) a ((head 3 (length b) ++ b) ++ [])) second third
-        ∙ ap (record_of_lem 8 (bytes 8 id) (slice (at + 4) (at + 4 + 8) s)) (append-nil (head 3 (length next) ++ next) ∙ sym field)) d
+        (record_is ProducerIds (bytes 8 id) (take 8 w) (item 3 (drop 8 w) done)
+        ∙ ap₂ (λ a b. record_of 8 (bytes 8 id) a ((head 3 (length b) ++ b) ++ [])) second third
+        ∙ ap (record_of 8 (bytes 8 id) (slice (at + 4) (at + 4 + 8) s)) (append-nil (head 3 (length next) ++ next) ∙ sym field)) d
 
 -- 4. By the kind
 

@@ -57,8 +57,8 @@ BrokerAs s at width r =
 -- 4. What is written
 
 -- a record's bytes by its kind's number: two fields, and the bytes of others
-abbrev pub record_of_lem : ℕ → Bytes → Bytes → Bytes → Bytes
-record_of_lem kind first second others =
+abbrev pub record_of : ℕ → Bytes → Bytes → Bytes → Bytes
+record_of kind first second others =
     head kind (6 + length first + length second + length others)
     ++ ((head 1 (length first) ++ first) ++ ((head 2 (length second) ++ second) ++ others))
 

@@ -3,7 +3,7 @@ ghost use Rattle.std.specs.Prelude.{◌+◌, ◌≤◌, length};
 ghost use Rattle.std.proofs.Math.Seq.{slice};
 ghost use Rattle.model.specs.Number.{bytes};
 ghost use Rattle.model.specs.Answers.{count_reply};
-ghost use Rattle.kafka_read.specs.Messages.{record_of_lem, EmitsAs};
+ghost use Rattle.kafka_read.specs.Messages.{record_of, EmitsAs};
 
 use model::answers::Counted;
 use model::refusals::TOO_SHORT;
@@ -19,7 +19,7 @@ pub fn emit(
     out: &mut [u8],
 ) -> Counted
     requires { (length first.now ≤ 255) × (length second.now ≤ 255) × (length others.now ≤ 255) }
-    ensures { EmitsAs (record_of_lem kind first.now second.now others.now) used out.old (count_reply result) out.new }
+    ensures { EmitsAs (record_of kind first.now second.now others.now) used out.old (count_reply result) out.new }
 {
     let at = 6 + first.len();
     let end = at + 3 + second.len();
@@ -45,7 +45,7 @@ pub fn emit_broker(
     out: &mut [u8],
 ) -> Counted
     requires { (at + 8 ≤ length s.now) × (length others.now ≤ 255) }
-    ensures { EmitsAs (record_of_lem kind (bytes 8 broker) (slice at (at + 8) s.now) others.now) used out.old (count_reply result) out.new }
+    ensures { EmitsAs (record_of kind (bytes 8 broker) (slice at (at + 8) s.now) others.now) used out.old (count_reply result) out.new }
 {
     let mut id = [0; 8];
     wire::put(&mut id, 0, 8, broker);

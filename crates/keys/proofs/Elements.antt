@@ -11,8 +11,8 @@ use Rattle.model.specs.Number.{Bytes}
 use Rattle.model.specs.Order.{compare_bytes, compare_keys, is_below, then_by, ordering}
 use Rattle.model.specs.Run.{Run, item, run_of, field, values}
 use Rattle.model.specs.Contents.{entity_key}
-use Rattle.model.specs.declared.Order.{Order}
-use Rattle.model.specs.declared.Order.TheVariants.{Less, Equal, Greater}
+use Rattle.std.specs.declared.cmp.Ordering.{Ordering as Order}
+use Rattle.std.specs.declared.cmp.Ordering.TheVariants.{Less, Equal, Greater}
 use Rattle.laws_records.specs.Fields.{Ascending, values-here, values-below}
 use Rattle.fields.specs.Fields.{fields_from, Inside, told, Onward}
 use Rattle.fields.specs.declared.Cursor.{Cursor}

@@ -11,8 +11,8 @@ use Rattle.model.specs.Number.{Bytes, AreBytes, number}
 use Rattle.model.specs.Kind.{kind_of, kinds}
 use Rattle.model.specs.Key.{rank}
 use Rattle.model.specs.Order.{then_by, compare_bytes, ordering}
-use Rattle.model.specs.declared.Order.{Order}
-use Rattle.model.specs.declared.Order.TheVariants.{Less, Equal, Greater}
+use Rattle.std.specs.declared.cmp.Ordering.{Ordering as Order}
+use Rattle.std.specs.declared.cmp.Ordering.TheVariants.{Less, Equal, Greater}
 use Rattle.shapes.proofs.Bases.{kind_past}
 use Rattle.keys.specs.Keys.{rank_of}
 use Rattle.keys.specs.Forms.{form_of, key_form}

@@ -7,8 +7,8 @@ ghost use Rattle.keys.specs.Keys.{run_in};
 ghost use Rattle.keys.specs.Entities.{name_order, entity_order, compare_entities, Element, onward, Quotas};
 
 use fields::{Cursor, Found, Step};
-use model::Order;
 use reader::field;
+use std::cmp::Ordering;
 
 // What stands at a cursor: an element's place and the cursor after it, or no more elements.
 #[derive(Clone, Copy)]
@@ -39,7 +39,7 @@ fn next_entity(s: &[u8], c: Cursor) -> Entity
 }
 
 // The order of two elements' names: an absent one first.
-fn compare_names(a: &[u8], x: Cursor, b: &[u8], y: Cursor) -> Order
+fn compare_names(a: &[u8], x: Cursor, b: &[u8], y: Cursor) -> Ordering
     requires { Inside a.now x × Inside b.now y }
     ensures { ordering result ≡ name_order (fields_from a.now x) (fields_from b.now y) }
 {
@@ -54,15 +54,15 @@ fn compare_names(a: &[u8], x: Cursor, b: &[u8], y: Cursor) -> Order
                     let to = from + n;
                     wire::compare(&a[start..end], &b[from..to])
                 }
-                Found::Missing => Order::Greater,
+                Found::Missing => Ordering::Greater,
             }
         }
         Found::Missing => match field(b, y, 2) {
             Found::Part {
                 start: from,
                 len: n,
-            } => Order::Less,
-            Found::Missing => Order::Equal,
+            } => Ordering::Less,
+            Found::Missing => Ordering::Equal,
         },
     }
 }
@@ -93,7 +93,7 @@ fn behind(s: &[u8], c: Cursor, p: Cursor) -> Cursor
 }
 
 // The order of two entities, each the fields at a cursor: type, then name, an absent name first.
-pub fn compare_entity(a: &[u8], x: Cursor, b: &[u8], y: Cursor) -> Order
+pub fn compare_entity(a: &[u8], x: Cursor, b: &[u8], y: Cursor) -> Ordering
     requires { Inside a.now x × Inside b.now y }
     ensures { ordering result ≡ entity_order (fields_from a.now x) (fields_from b.now y) }
 {
@@ -104,14 +104,14 @@ pub fn compare_entity(a: &[u8], x: Cursor, b: &[u8], y: Cursor) -> Order
     let qs = q.at;
     let qe = q.to;
     match wire::compare(&a[ps..pe], &b[qs..qe]) {
-        Order::Less => Order::Less,
-        Order::Equal => compare_names(a, behind(a, x, p), b, behind(b, y, q)),
-        Order::Greater => Order::Greater,
+        Ordering::Less => Ordering::Less,
+        Ordering::Equal => compare_names(a, behind(a, x, p), b, behind(b, y, q)),
+        Ordering::Greater => Ordering::Greater,
     }
 }
 
 // The order of two quotas' entities.
-pub fn compare_entities(a: &[u8], b: &[u8]) -> Order
+pub fn compare_entities(a: &[u8], b: &[u8]) -> Ordering
     requires { Quotas a.now b.now }
     ensures { ordering result ≡ compare_entities (values 1 (run_in a.now)) (values 1 (run_in b.now)) }
 {
@@ -124,28 +124,28 @@ pub fn compare_entities(a: &[u8], b: &[u8]) -> Order
                     let x = Cursor { at: start, to: end };
                     let y = Cursor { at: from, to };
                     match compare_entity(a, x, b, y) {
-                        Order::Less => {
-                            return Order::Less;
+                        Ordering::Less => {
+                            return Ordering::Less;
                         }
-                        Order::Equal => {
+                        Ordering::Equal => {
                             c = next;
                             d = after;
                         }
-                        Order::Greater => {
-                            return Order::Greater;
+                        Ordering::Greater => {
+                            return Ordering::Greater;
                         }
                     }
                 }
                 Entity::Last => {
-                    return Order::Greater;
+                    return Ordering::Greater;
                 }
             },
             Entity::Last => match next_entity(b, d) {
                 Entity::At(from, to, after) => {
-                    return Order::Less;
+                    return Ordering::Less;
                 }
                 Entity::Last => {
-                    return Order::Equal;
+                    return Ordering::Equal;
                 }
             },
         }

@@ -17,8 +17,9 @@ ghost use Rattle.keys.specs.Entities.{Quotas};
 use entities::compare_entities;
 pub use entities::compare_entity;
 use fields::Found;
-use model::{NodeId, Order, kinds};
+use model::{NodeId, kinds};
 use reader::find;
+use std::cmp::Ordering;
 pub use values::{place_in, same_value};
 
 // Where a record's fields begin: after its kind and its body's length.
@@ -97,7 +98,7 @@ pub fn node_at(s: &[u8], tag: usize) -> NodeId
 }
 
 // The order of two records' fields of a tag, by bytes.
-pub fn compare_field(a: &[u8], b: &[u8], tag: usize) -> Order
+pub fn compare_field(a: &[u8], b: &[u8], tag: usize) -> Ordering
     requires { (3 ≤ length a.now) × (3 ≤ length b.now) }
     ensures { ordering result ≡ compare_bytes (value tag (run_in a.now)) (value tag (run_in b.now)) }
 {
@@ -121,30 +122,30 @@ fn partition_place(s: &[u8]) -> u64
 }
 
 // The order of two records' partition numbers, by value.
-fn compare_partitions(a: &[u8], b: &[u8]) -> Order
+fn compare_partitions(a: &[u8], b: &[u8]) -> Ordering
     requires { (3 ≤ length a.now) × (3 ≤ length b.now) × (length (value 2 (run_in a.now)) ≡ 4) × (length (value 2 (run_in b.now)) ≡ 4) }
     ensures { ordering result ≡ compare_bytes (partition_part (value 2 (run_in a.now))) (partition_part (value 2 (run_in b.now))) }
 {
     let x = partition_place(a);
     let y = partition_place(b);
     if x < y {
-        return Order::Less;
+        return Ordering::Less;
     }
     if y < x {
-        return Order::Greater;
+        return Ordering::Greater;
     }
-    Order::Equal
+    Ordering::Equal
 }
 
 // The order of two records' fields of one tag, and of another where those are the same.
-fn compare_both(a: &[u8], b: &[u8], tag: usize, other: usize) -> Order
+fn compare_both(a: &[u8], b: &[u8], tag: usize, other: usize) -> Ordering
     requires { (3 ≤ length a.now) × (3 ≤ length b.now) }
     ensures { ordering result ≡ then_by (compare_bytes (value tag (run_in a.now)) (value tag (run_in b.now))) (compare_bytes (value other (run_in a.now)) (value other (run_in b.now))) }
 {
     match compare_field(a, b, tag) {
-        Order::Less => Order::Less,
-        Order::Equal => compare_field(a, b, other),
-        Order::Greater => Order::Greater,
+        Ordering::Less => Ordering::Less,
+        Ordering::Equal => compare_field(a, b, other),
+        Ordering::Greater => Ordering::Greater,
     }
 }
 
@@ -184,31 +185,31 @@ fn form_of(kind: u8) -> u8
 }
 
 // The order of two records' topics and partition numbers.
-fn compare_placed(a: &[u8], b: &[u8]) -> Order
+fn compare_placed(a: &[u8], b: &[u8]) -> Ordering
     requires { (3 ≤ length a.now) × (3 ≤ length b.now) × (length (value 2 (run_in a.now)) ≡ 4) × (length (value 2 (run_in b.now)) ≡ 4) }
     ensures { ordering result ≡ by_form 4 (run_in a.now) (run_in b.now) }
 {
     match compare_field(a, b, 1) {
-        Order::Less => Order::Less,
-        Order::Equal => compare_partitions(a, b),
-        Order::Greater => Order::Greater,
+        Ordering::Less => Ordering::Less,
+        Ordering::Equal => compare_partitions(a, b),
+        Ordering::Greater => Ordering::Greater,
     }
 }
 
 // The order of two quotas: entities, then the config key.
-fn compare_quotas(a: &[u8], b: &[u8]) -> Order
+fn compare_quotas(a: &[u8], b: &[u8]) -> Ordering
     requires { Quotas a.now b.now }
     ensures { ordering result ≡ by_form 5 (run_in a.now) (run_in b.now) }
 {
     match compare_entities(a, b) {
-        Order::Less => Order::Less,
-        Order::Equal => compare_field(a, b, 2),
-        Order::Greater => Order::Greater,
+        Ordering::Less => Ordering::Less,
+        Ordering::Equal => compare_field(a, b, 2),
+        Ordering::Greater => Ordering::Greater,
     }
 }
 
 // The order of two records of one group, by what tells its entries apart.
-fn compare_by(form: u8, a: &[u8], b: &[u8]) -> Order
+fn compare_by(form: u8, a: &[u8], b: &[u8]) -> Ordering
     requires { (3 ≤ length a.now) × (3 ≤ length b.now) × FormFits form (run_in a.now) × FormFits form (run_in b.now) }
     ensures { ordering result ≡ by_form form (run_in a.now) (run_in b.now) }
 {
@@ -218,22 +219,22 @@ fn compare_by(form: u8, a: &[u8], b: &[u8]) -> Order
         3 => compare_both(a, b, 2, 1),
         4 => compare_placed(a, b),
         5 => compare_quotas(a, b),
-        _ => Order::Equal,
+        _ => Ordering::Equal,
     }
 }
 
 // The order of two records' keys.
-pub fn compare_keys(a: &[u8], b: &[u8]) -> Order
+pub fn compare_keys(a: &[u8], b: &[u8]) -> Ordering
     requires { Keyed a.now × Keyed b.now }
     ensures { ordering result ≡ compare_keys (key_in a.now) (key_in b.now) }
 {
     let x = rank_of(a[0]);
     let y = rank_of(b[0]);
     if x < y {
-        return Order::Less;
+        return Ordering::Less;
     }
     if y < x {
-        return Order::Greater;
+        return Ordering::Greater;
     }
     compare_by(form_of(a[0]), a, b)
 }

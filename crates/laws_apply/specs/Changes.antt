@@ -12,7 +12,7 @@ use Rattle.model.specs.Number.{Bytes, AreBytes, number}
 use Rattle.model.specs.Order.{same_bytes}
 use Rattle.model.specs.Run.{Run, run_of, field, value, set_field}
 use Rattle.model.specs.Kind.{kind_number}
-use Rattle.model.specs.Shape.{Form, fixed, below, offset, text, map_key, raw, list, node_set, nested, Row, record_of_lem, rows_of, any_required, may_follow}
+use Rattle.model.specs.Shape.{Form, fixed, below, offset, text, map_key, raw, list, node_set, nested, Row, record_of, rows_of, any_required, may_follow}
 use Rattle.model.specs.Shape.{list_limit, start, leaf_fault, run_fault, value_fault, logged, stored, shape_of, fault}
 use Rattle.model.specs.Record.{rec}
 use Rattle.model.specs.Move.{node_width, id_width, elr_rec, recovery_rec, fenced_after, changed_broker}
@@ -120,18 +120,18 @@ every-at test (y ∷ l) zero x h e = let q : y ≡ x = cc in rw (← q) (and_lef
 every-at test (y ∷ l) (suc i) x h e = every-at test l i x (and_right (test y) (every test l) h) e
 
 -- a partition that stands as a value passes as a record: its fields are no runs
-pub nested_passes : (v : Bytes) → ValueFits none (nested (record_of_lem Partition)) v → fault stored Partition (run_of v) ≡ 0
+pub nested_passes : (v : Bytes) → ValueFits none (nested (record_of Partition)) v → fault stored Partition (run_of v) ≡ 0
 unfolding shape_of kind_number
 nested_passes v p =
-    let rows = rows_of (record_of_lem Partition) in
+    let rows = rows_of (record_of Partition) in
     sym (run-same (leaf_check none) value_fault rows same start (run_of v)) ∙ passes (leaf_check none) rows (run_of v) p
   where
-    leaves : every (λ row. is_leaf row.form) (rows_of (record_of_lem Partition)) ≡ true
+    leaves : every (λ row. is_leaf row.form) (rows_of (record_of Partition)) ≡ true
     leaves = unfold rows_of in refl
 
-    same : (i : ℕ) (row : Row) → get_elem? (rows_of (record_of_lem Partition)) i ≡ some row → (k : Option Bytes) (w : Bytes)
+    same : (i : ℕ) (row : Row) → get_elem? (rows_of (record_of Partition)) i ≡ some row → (k : Option Bytes) (w : Bytes)
         → leaf_fault none row.form w ≡ value_fault k row.form w
-    same i row e k w = leaf_value row.form (every-at (λ x. is_leaf x.form) (rows_of (record_of_lem Partition)) i row leaves e) none k w
+    same i row e k w = leaf_value row.form (every-at (λ x. is_leaf x.form) (rows_of (record_of Partition)) i row leaves e) none k w
 
 module _ (f : Run) (ok : fault logged PartitionUpdate f ≡ 0) (b : AreFields f) where
   pub update_partition : Readable (rec Partition (run_of (value 1 f)))

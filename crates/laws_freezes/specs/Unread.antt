@@ -9,7 +9,7 @@ use Rattle.model.specs.Text.{is_text}
 use Rattle.model.specs.Order.{compare_bytes, is_below}
 use Rattle.model.specs.Shape.{string_limit}
 use Rattle.model.specs.Image.{contents_of}
-use Rattle.model.specs.Names.{bad, name, in_order_lem, name_fault, unless_bad, names_from, names_of, list_fault, listed}
+use Rattle.model.specs.Names.{bad, name, in_order, name_fault, unless_bad, names_from, names_of, list_fault, listed}
 use Rattle.model.specs.FreezeList.{last_name, UnreadUnseen, job_limit}
 use Rattle.laws.specs.Choice.{impossible, and_both, and_left, and_right}
 use Rattle.laws.specs.Order.{bytes-total, gt_lt, lt≢gt, lt≢eq}
@@ -23,11 +23,11 @@ up_to last n = not (is_below (compare_bytes last n))
 -- each is not below the one before
 abbrev pub rising : Option Bytes → List Bytes → Bool
 rising prior [] = true
-rising prior (n ∷ ns) = in_order_lem prior n && rising (some n) ns
+rising prior (n ∷ ns) = in_order prior n && rising (some n) ns
 
-fault_order : (prior : Option Bytes) (v : Bytes) → name_fault true prior v ≡ 0 → in_order_lem prior v ≡ true
+fault_order : (prior : Option Bytes) (v : Bytes) → name_fault true prior v ≡ 0 → in_order prior v ≡ true
 unfolding name_fault
-fault_order prior v h = go (is_text v) (in_order_lem prior v) (leb (length v) string_limit) h
+fault_order prior v h = go (is_text v) (in_order prior v) (leb (length v) string_limit) h
   where
     go : (a b c : Bool) → or_then (unless a 4) (or_then (unless (not true || b) 4) (unless c 5)) ≡ 0 → b ≡ true
     go true true c h = refl
@@ -53,7 +53,7 @@ listed-rising (suc most) prior zero (h ∷ l ∷ s) e =
         → (list_fault (names_from true most (some v) (suc (h * 256 + l)) (l ∷ s)) ≡ 0 → rising (some v) (listed (names_from true most (some v) (suc (h * 256 + l)) (l ∷ s))) ≡ true)
         → rising prior (listed (cond b (bad 2) (unless_bad n (name v (names_from true most (some v) (suc (h * 256 + l)) (l ∷ s)))))) ≡ true
     go true n q e i = impossible cc
-    go false zero q e i = and_both (in_order_lem prior v) (rising (some v) (listed (names_from true most (some v) (suc (h * 256 + l)) (l ∷ s)))) (fault_order prior v q) (i e)
+    go false zero q e i = and_both (in_order prior v) (rising (some v) (listed (names_from true most (some v) (suc (h * 256 + l)) (l ∷ s)))) (fault_order prior v q) (i e)
     go false (suc n) q e i = impossible cc
 
 pub not_below : (o : Ordering) → not (is_below o) ≡ true → o ≡ Ordering.lt → ⊥
@@ -67,7 +67,7 @@ is_not_below Ordering.eq h = refl
 is_not_below Ordering.gt h = refl
 
 -- where n is not above m, and m not above the last, n is not
-step_down : (last n m : Bytes) → in_order_lem (some n) m ≡ true → up_to last m ≡ true → up_to last n ≡ true
+step_down : (last n m : Bytes) → in_order (some n) m ≡ true → up_to last m ≡ true → up_to last n ≡ true
 step_down last n m h u = is_not_below (compare_bytes last n) (λ e. go e (compare_bytes n m) refl)
   where
     go : compare_bytes last n ≡ Ordering.lt → (o : Ordering) → compare_bytes n m ≡ o → ⊥
@@ -83,10 +83,10 @@ up_to-last prior last (n ∷ []) h e =
     let s : n ≡ last = cc in
     rw (s, bytes-total.same last) refl
 up_to-last prior last (n ∷ m ∷ ns) h e =
-    let r = and_right (in_order_lem prior n) (rising (some n) (m ∷ ns)) h in
+    let r = and_right (in_order prior n) (rising (some n) (m ∷ ns)) h in
     let i = up_to-last (some n) last (m ∷ ns) r e in
     and_both (up_to last n) (every (up_to last) (m ∷ ns))
-    (step_down last n m (and_left (in_order_lem (some n) m) (rising (some m) ns) r) (and_left (up_to last m) (every (up_to last) ns) i)) i
+    (step_down last n m (and_left (in_order (some n) m) (rising (some m) ns) r) (and_left (up_to last m) (every (up_to last) ns) i)) i
 
 pub unread_unseen_by_list : UnreadUnseen
 unread_unseen_by_list image bytes is list last accepted is_last =

@@ -8,7 +8,7 @@ use Rattle.model.specs.Choice.{given}
 use Rattle.model.specs.Number.{Bytes}
 use Rattle.model.specs.Run.{Run, done, torn, item, run_of, bytes_of}
 use Rattle.model.specs.Kind.{kind_number}
-use Rattle.model.specs.Shape.{Shape, record_of_lem, stored_topic, Form, fixed, below, offset, text, map_key, raw, list, node_set, nested, Row, rows_of, row_at, Before, start, count_before, key_before, after, run_fault, leaf_fault, value_fault, Source, logged, stored, framed, shape_of}
+use Rattle.model.specs.Shape.{Shape, record_of, stored_topic, Form, fixed, below, offset, text, map_key, raw, list, node_set, nested, Row, rows_of, row_at, Before, start, count_before, key_before, after, run_fault, leaf_fault, value_fault, Source, logged, stored, framed, shape_of}
 use Rattle.model.specs.declared.Kind.{Kind}
 use Rattle.model.specs.declared.Kind.TheVariants.{Topic, Partition, BrokerRegistration, DeleteTopic, TopicConfig, BrokerConfig, ClientQuota, ProducerIds, UnregisterBroker, KRaftVersion, FeatureLevel, ClientMetricsConfig, FeaturesEpoch, PartitionDirAssignment}
 use Rattle.model.specs.declared.Kind.TheVariants.{PartitionOffsetAdvance, GroupConfig, ControllerRegistration, TopicFreeze, BreakGlassProposal, DeleteBreakGlassProposal, PartitionElr, PartitionRecovery, PartitionUpdate, BrokerRegistrationChange, UnregisterController, LogOffset}
@@ -148,7 +148,7 @@ fields-length rows r e = run_length value_fault most rows value-length r e
 abbrev pub longest_body : ℕ
 longest_body = 33474
 
-longest_kind : (kind : Kind) → longest (rows_of (record_of_lem kind)) ≤ longest_body
+longest_kind : (kind : Kind) → longest (rows_of (record_of kind)) ≤ longest_body
 unfolding rows_of
 longest_kind Topic = lit≤ tt
 longest_kind Partition = lit≤ tt
@@ -182,7 +182,7 @@ unfolding rows_of
 longest_topic = lit≤ tt
 
 -- a topic config's rows give the number
-longest_config : longest (rows_of (record_of_lem TopicConfig)) ≡ longest_body
+longest_config : longest (rows_of (record_of TopicConfig)) ≡ longest_body
 unfolding rows_of
 longest_config = refl
 
@@ -192,6 +192,6 @@ longest_shape logged kind = longest_kind kind
 longest_shape framed kind = longest_kind kind
 longest_shape stored kind = go (eqb (kind_number kind) 1)
   where
-    go : (b : Bool) → longest (rows_of (cond b stored_topic (record_of_lem kind))) ≤ longest_body
+    go : (b : Bool) → longest (rows_of (cond b stored_topic (record_of kind))) ≤ longest_body
     go true = longest_topic
     go false = longest_kind kind

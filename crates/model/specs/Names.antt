@@ -14,14 +14,14 @@ pub data Names : Type 0 where
   name : Bytes → Names → Names
 
 -- not below the one before
-abbrev pub in_order_lem : Option Bytes → Bytes → Bool
-in_order_lem none v = true
-in_order_lem (some p) v = not (is_below (compare_bytes v p))
+abbrev pub in_order : Option Bytes → Bytes → Bool
+in_order none v = true
+in_order (some p) v = not (is_below (compare_bytes v p))
 
 -- "4 and 5 in list order, names out of order being 4"
 unfoldable pub name_fault : Bool → Option Bytes → Bytes → ℕ
 name_fault ordered prior v =
-    or_then (unless (is_text v) 4) (or_then (unless (not ordered || in_order_lem prior v) 4) (unless (leb (length v) string_limit) 5))
+    or_then (unless (is_text v) 4) (or_then (unless (not ordered || in_order prior v) 4) (unless (leb (length v) string_limit) 5))
 
 abbrev pub unless_bad : ℕ → Names → Names
 unless_bad zero ns = ns

@@ -19,7 +19,7 @@ use Rattle.model.specs.declared.Kind.TheVariants.{PartitionOffsetAdvance, GroupC
 
 -- what has fields: a kind's record, the topic as an image stores it, and the elements of compound lists and maps
 pub data Shape : Type 0 where
-  record_of_lem : Kind → Shape
+  record_of : Kind → Shape
   stored_topic : Shape
   endpoint : Shape
   approval : Shape
@@ -119,39 +119,39 @@ pairs = many list_limit pair
 -- a shape's rows, the first being tag 1's: a line is a struct of the Rust's (or an element of its maps, or a topic as an image stores it), and
 -- each of its rows a field
 unfoldable pub rows_of : Shape → List Row
-rows_of (record_of_lem Topic) = must string ∷ must uuid ∷ must i32 ∷ must i16 ∷ []
-rows_of (record_of_lem Partition) =
+rows_of (record_of Topic) = must string ∷ must uuid ∷ must i32 ∷ must i16 ∷ []
+rows_of (record_of Partition) =
     must string ∷ must i32 ∷ must u64 ∷ must (node_set list_limit) ∷ must nodes ∷ must i32 ∷ must nodes ∷ must nodes ∷ must uuids ∷ must i32 ∷ []
-rows_of (record_of_lem BrokerRegistration) =
+rows_of (record_of BrokerRegistration) =
     must u64 ∷ must i64 ∷ must uuid ∷ must string ∷ must u16 ∷ may string ∷ endpoints ∷ must uuids ∷ must bool ∷ must bool ∷ may uuids ∷
     features ∷ []
-rows_of (record_of_lem DeleteTopic) = must string ∷ []
-rows_of (record_of_lem TopicConfig) = must string ∷ pairs ∷ []
-rows_of (record_of_lem BrokerConfig) = must u64 ∷ must string ∷ may string ∷ []
-rows_of (record_of_lem ClientQuota) = many entity_limit entity ∷ must string ∷ may f64 ∷ []
-rows_of (record_of_lem ProducerIds) = must u64 ∷ must i64 ∷ must i64 ∷ []
-rows_of (record_of_lem UnregisterBroker) = must u64 ∷ must i64 ∷ []
-rows_of (record_of_lem KRaftVersion) = must u16 ∷ []
-rows_of (record_of_lem FeatureLevel) = must string ∷ must i16 ∷ []
-rows_of (record_of_lem ClientMetricsConfig) = must string ∷ pairs ∷ []
-rows_of (record_of_lem FeaturesEpoch) = must i64 ∷ []
-rows_of (record_of_lem PartitionDirAssignment) = must string ∷ must i32 ∷ must u64 ∷ must uuid ∷ []
-rows_of (record_of_lem PartitionOffsetAdvance) = must string ∷ must i32 ∷ must i64 ∷ []
-rows_of (record_of_lem GroupConfig) = must string ∷ pairs ∷ []
-rows_of (record_of_lem ControllerRegistration) = must u64 ∷ must uuid ∷ must bool ∷ endpoints ∷ features ∷ []
-rows_of (record_of_lem TopicFreeze) =
+rows_of (record_of DeleteTopic) = must string ∷ []
+rows_of (record_of TopicConfig) = must string ∷ pairs ∷ []
+rows_of (record_of BrokerConfig) = must u64 ∷ must string ∷ may string ∷ []
+rows_of (record_of ClientQuota) = many entity_limit entity ∷ must string ∷ may f64 ∷ []
+rows_of (record_of ProducerIds) = must u64 ∷ must i64 ∷ must i64 ∷ []
+rows_of (record_of UnregisterBroker) = must u64 ∷ must i64 ∷ []
+rows_of (record_of KRaftVersion) = must u16 ∷ []
+rows_of (record_of FeatureLevel) = must string ∷ must i16 ∷ []
+rows_of (record_of ClientMetricsConfig) = must string ∷ pairs ∷ []
+rows_of (record_of FeaturesEpoch) = must i64 ∷ []
+rows_of (record_of PartitionDirAssignment) = must string ∷ must i32 ∷ must u64 ∷ must uuid ∷ []
+rows_of (record_of PartitionOffsetAdvance) = must string ∷ must i32 ∷ must i64 ∷ []
+rows_of (record_of GroupConfig) = must string ∷ pairs ∷ []
+rows_of (record_of ControllerRegistration) = must u64 ∷ must uuid ∷ must bool ∷ endpoints ∷ features ∷ []
+rows_of (record_of TopicFreeze) =
     must string ∷ must (below 2) ∷ must bool ∷ must string ∷ must string ∷ must i64 ∷ must uuid ∷ must string ∷
     must (raw signature_limit) ∷ []
-rows_of (record_of_lem BreakGlassProposal) =
+rows_of (record_of BreakGlassProposal) =
     must uuid ∷ must (below 7) ∷ must string ∷ must string ∷ must string ∷ must i64 ∷ must i64 ∷ many endpoint_limit approval ∷
     must i64 ∷ must bool ∷ []
-rows_of (record_of_lem DeleteBreakGlassProposal) = must uuid ∷ []
-rows_of (record_of_lem PartitionElr) = must string ∷ must i32 ∷ must nodes ∷ must nodes ∷ []
-rows_of (record_of_lem PartitionRecovery) = must string ∷ must i32 ∷ must (below 2) ∷ []
-rows_of (record_of_lem PartitionUpdate) = must (nested (record_of_lem Partition)) ∷ may nodes ∷ may nodes ∷ may (below 2) ∷ []
-rows_of (record_of_lem BrokerRegistrationChange) = must u64 ∷ must i64 ∷ must (below 3) ∷ must bool ∷ must uuids ∷ may uuids ∷ []
-rows_of (record_of_lem UnregisterController) = must u64 ∷ []
-rows_of (record_of_lem LogOffset) = must offset ∷ []
+rows_of (record_of DeleteBreakGlassProposal) = must uuid ∷ []
+rows_of (record_of PartitionElr) = must string ∷ must i32 ∷ must nodes ∷ must nodes ∷ []
+rows_of (record_of PartitionRecovery) = must string ∷ must i32 ∷ must (below 2) ∷ []
+rows_of (record_of PartitionUpdate) = must (nested (record_of Partition)) ∷ may nodes ∷ may nodes ∷ may (below 2) ∷ []
+rows_of (record_of BrokerRegistrationChange) = must u64 ∷ must i64 ∷ must (below 3) ∷ must bool ∷ must uuids ∷ may uuids ∷ []
+rows_of (record_of UnregisterController) = must u64 ∷ []
+rows_of (record_of LogOffset) = must offset ∷ []
 rows_of stored_topic = must string ∷ must uuid ∷ must i32 ∷ must i16 ∷ must (fixed 5) ∷ []
 rows_of endpoint = must string ∷ must string ∷ must u16 ∷ must (below 4) ∷ []
 rows_of approval = must string ∷ must i64 ∷ must string ∷ must (raw signature_limit) ∷ []
@@ -272,9 +272,9 @@ pub data Source : Type 0 where
   framed : Source
 
 unfoldable pub shape_of : Source → Kind → Shape
-shape_of logged k = record_of_lem k
-shape_of framed k = record_of_lem k
-shape_of stored k = cond (eqb (kind_number k) 1) stored_topic (record_of_lem k)
+shape_of logged k = record_of k
+shape_of framed k = record_of k
+shape_of stored k = cond (eqb (kind_number k) 1) stored_topic (record_of k)
 
 -- 02, 5: "to Validate and Apply that kind is 3", whatever its fields, and no image stores it
 abbrev pub unknown : Source → Kind → ℕ

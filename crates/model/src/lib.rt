@@ -36,14 +36,6 @@ pub enum Kind {
     LogOffset,
 }
 
-// How two byte strings, or two keys, stand to each other.
-#[derive(Clone, Copy)]
-pub enum Order {
-    Less,
-    Equal,
-    Greater,
-}
-
 // A broker's or controller's number. Never taken for a leader epoch.
 #[derive(Clone, Copy)]
 pub struct NodeId(pub u64);

@@ -8,7 +8,7 @@ use borrow.Author.Tests.{not-true}
 use Rattle.model.specs.Choice.{every}
 use Rattle.model.specs.Number.{Bytes}
 use Rattle.model.specs.Order.{compare_bytes, same_bytes, is_below}
-use Rattle.model.specs.Names.{in_order_lem}
+use Rattle.model.specs.Names.{in_order}
 use Rattle.model.specs.Lookup.{begins_with}
 use Rattle.laws.specs.Choice.{true_false, not_true_false, and_left, and_right, and_both}
 use Rattle.laws.specs.Order.{bytes-total, gt_lt, lt≢eq, is_below_true, same_bytes_true, same_bytes_self}
@@ -43,9 +43,9 @@ pub rising_on : (scope v : Bytes) (ns : List Bytes) → not (below scope v) ≡ 
     → every (λ name. not (below scope name)) ns ≡ true
 rising_on scope v [] h r = refl
 rising_on scope v (n ∷ ns) h r =
-    let on = step_on scope v n h (and_left (in_order_lem (some v) n) (rising (some n) ns) r) in
+    let on = step_on scope v n h (and_left (in_order (some v) n) (rising (some n) ns) r) in
     and_both (not (below scope n)) (every (λ name. not (below scope name)) ns) on
-    (rising_on scope n ns on (and_right (in_order_lem (some v) n) (rising (some n) ns) r))
+    (rising_on scope n ns on (and_right (in_order (some v) n) (rising (some n) ns) r))
 
 -- 2. Which names fit
 

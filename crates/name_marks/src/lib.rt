@@ -5,8 +5,8 @@ ghost use Rattle.std.specs.Prelude.{◌≡◌, ◌++◌, ◌*◌, ◌≤◌, len
 ghost use Rattle.model.specs.Order.{compare_bytes, is_below};
 ghost use Rattle.name_marks.specs.Marks.{fits_name, marked, Accepted, jobs, Behind, Reached};
 
-use model::Order;
 use names::{Name, name_at};
+use std::cmp::Ordering;
 use wire::{begins_with, compare, put, same};
 
 // A place in a list of names, and how many names stand before it.
@@ -31,9 +31,9 @@ pub fn is_below(name: &[u8], scope: &[u8]) -> bool
     ensures { result ≡ is_below (compare_bytes name.now scope.now) }
 {
     match compare(name, scope) {
-        Order::Less => true,
-        Order::Equal => false,
-        Order::Greater => false,
+        Ordering::Less => true,
+        Ordering::Equal => false,
+        Ordering::Greater => false,
     }
 }
 

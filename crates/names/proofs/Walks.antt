@@ -14,7 +14,7 @@ use Rattle.model.specs.Number.{Bytes, number}
 use Rattle.model.specs.Text.{is_text}
 use Rattle.model.specs.Order.{compare_bytes, is_below}
 use Rattle.model.specs.Shape.{string_limit}
-use Rattle.model.specs.Names.{Names, end, bad, name, in_order_lem, name_fault, unless_bad, names_from, names_of, list_fault, listed}
+use Rattle.model.specs.Names.{Names, end, bad, name, in_order, name_fault, unless_bad, names_from, names_of, list_fault, listed}
 use Rattle.laws.specs.Choice.{impossible}
 use Rattle.fields.proofs.Parse.{take-drop}
 use Rattle.names.specs.Lists.{out_of_order, size_at, last_or}
@@ -236,7 +236,7 @@ module _ (ordered : Bool) (prior v : Bytes) {a : Bool} (text : a ≡ is_text v) 
   unfolding name_fault
   fault_text h = rw (← text) (go a h)
     where
-      go : (a : Bool) → not a ≡ true → 4 ≡ or_then (unless a 4) (or_then (unless (not ordered || in_order_lem (some prior) v) 4) (unless (leb (length v) string_limit) 5))
+      go : (a : Bool) → not a ≡ true → 4 ≡ or_then (unless a 4) (or_then (unless (not ordered || in_order (some prior) v) 4) (unless (leb (length v) string_limit) 5))
       go true h = impossible cc
       go false h = refl
 

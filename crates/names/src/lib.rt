@@ -6,8 +6,8 @@ ghost use Rattle.std.proofs.Math.Option.{some};
 ghost use Rattle.model.specs.Names.{name_fault};
 ghost use Rattle.names.specs.Lists.{out_of_order, NameAs, CheckedAs};
 
-use model::Order;
 use model::refusals::{OVER_A_LIMIT, PAST_THE_END, WRONG};
+use std::cmp::Ordering;
 use wire::{compare, get16, is_text};
 
 // The most bytes of a name.
@@ -45,9 +45,9 @@ fn is_out_of_order(v: &[u8], prior: &[u8], ordered: bool) -> bool
         return false;
     }
     match compare(v, prior) {
-        Order::Less => true,
-        Order::Equal => false,
-        Order::Greater => false,
+        Ordering::Less => true,
+        Ordering::Equal => false,
+        Ordering::Greater => false,
     }
 }
 

@@ -10,10 +10,8 @@ pub fn load(nodes: &mut [u64], v: &[u8]) -> usize
     ensures { (result ≡ length v.now / 8) × (take result nodes.new ≡ nodes_from result v.now) }
 {
     let count = v.len() / 8;
-    let mut i = 0;
-    while i < count {
-        nodes[i] = wire::get(v, i * 8, 8);
-        i += 1;
+    for (i, node) in nodes[..count].iter_mut().enumerate() {
+        *node = wire::get(v, i * 8, 8);
     }
     count
 }
@@ -22,31 +20,14 @@ pub fn load(nodes: &mut [u64], v: &[u8]) -> usize
 pub fn among(nodes: &[u64], n: u64) -> bool
     ensures { result ≡ is_among n nodes.now }
 {
-    let mut i = 0;
-    while i < nodes.len() {
-        if nodes[i] == n {
-            return true;
-        }
-        i += 1;
-    }
-    false
+    nodes.contains(&n)
 }
 
 // How many of some numbers are not among others.
 pub fn outside(nodes: &[u64], others: &[u64]) -> usize
     ensures { result ≡ outside_of others.now nodes.now }
 {
-    let mut n = 0;
-    let mut i = 0;
-    while i < nodes.len() {
-        let x = nodes[i];
-        i += 1;
-        if among(others, x) {
-            continue;
-        }
-        n += 1;
-    }
-    n
+    nodes.iter().filter(|n| !among(others, **n)).count()
 }
 
 // How many nodes of a list are not in another one: all of them where that one is empty.
@@ -54,7 +35,7 @@ pub fn outside_in(v: &[u8], w: &[u8]) -> usize
     requires { (length v.now / 8 ≤ 64) × (length w.now / 8 ≤ 64) }
     ensures { result ≡ outside_of (nodes_of w.now) (nodes_of v.now) }
 {
-    if w.len() == 0 {
+    if w.is_empty() {
         return v.len() / 8;
     }
     let mut list = [0; 64];
@@ -70,28 +51,12 @@ fn comes_again(v: &[u8], at: usize) -> bool
     ensures { result ≡ is_among (get_or (nodes_of v.now) at 0) (drop (at + 1) (nodes_of v.now)) }
 {
     let node = wire::get(v, at * 8, 8);
-    let count = v.len() / 8;
-    let mut i = at + 1;
-    while i < count {
-        if wire::get(v, i * 8, 8) == node {
-            return true;
-        }
-        i += 1;
-    }
-    false
+    (at + 1..v.len() / 8).any(|i| wire::get(v, i * 8, 8) == node)
 }
 
 // Whether no node of a list comes twice.
 pub fn apart_in(v: &[u8]) -> bool
     ensures { result ≡ no_repeats (nodes_of v.now) }
 {
-    let count = v.len() / 8;
-    let mut i = 0;
-    while i < count {
-        if comes_again(v, i) {
-            return false;
-        }
-        i += 1;
-    }
-    true
+    (0..v.len() / 8).all(|i| !comes_again(v, i))
 }

@@ -17,8 +17,8 @@ ghost use Rattle.restore_settled.specs.Settled.{settled_record, Factored, is_no_
 use entries::{Cursor, Step};
 use image_counts::beside;
 use keys::{number_at, value_at};
-use model::Order;
 use model::kinds::{FEATURE_LEVEL, TOPIC};
+use std::cmp::Ordering;
 
 // How many replicas a partition's record lists: the fourth field, eight bytes a node.
 fn replica_count(e: &[u8]) -> u64
@@ -48,15 +48,15 @@ fn tally_of(s: &[u8], name: &[u8], given: u64) -> Tally
     loop {
         match c.next(s) {
             Step::Entry(start, end, next) => match beside(&s[start..end], name) {
-                Order::Less => {
+                Ordering::Less => {
                     c = next;
                 }
-                Order::Equal => {
+                Ordering::Equal => {
                     c = next;
                     count += 1;
                     factor = replica_count(&s[start..end]);
                 }
-                Order::Greater => {
+                Ordering::Greater => {
                     return Tally {
                         count,
                         factor,

@@ -15,7 +15,7 @@ use Rattle.model.specs.Text.{is_text}
 use Rattle.model.specs.Order.{compare_bytes, is_below, ordering}
 use Rattle.model.specs.Shape.{below, offset, map_key, node_set, text_fault, ascends, is_below_byte, leaf_fault}
 use Rattle.model.specs.Nodes.{nodes_of, no_repeats}
-use Rattle.model.specs.declared.Order.{Order}
+use Rattle.std.specs.declared.cmp.Ordering.{Ordering as Order}
 use Rattle.laws.specs.Choice.{or_then-left, or_then_right}
 use Rattle.shape_faults.specs.Walk.{prior_key, PriorIn, limit_fault, list_fault}
 use Rattle.shape_faults.specs.declared.Prior.{Prior}

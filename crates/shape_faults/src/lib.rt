@@ -11,10 +11,10 @@ ghost use Rattle.fields.specs.Fields.{fields_from, Inside};
 ghost use Rattle.shape_faults.specs.Walk.{IsBase, IsRow, prior_key, PriorIn, no_key, begun, prior_for, count_for, before_in, presence_at, key_of, passed, check_at, limit_fault, list_fault, tag_fault, end_fault, field_fault};
 
 use fields::{Cursor, Found, Step};
-use model::Order;
 use model::refusals::{OVER_A_LIMIT, REPEATED, WRONG};
 use reader::field;
 use shapes::{form_in, many_in, prior_in, row_at, size_in};
+use std::cmp::Ordering;
 
 // Two of the wrong fields by name: a string that is no UTF-8, and a map's key that is not above the one before.
 const NO_TEXT: u8 = WRONG;
@@ -77,9 +77,9 @@ fn ascends(s: &[u8], prior: Prior, v: &[u8]) -> bool
         return true;
     }
     match wire::compare(&s[start..end], v) {
-        Order::Less => true,
-        Order::Equal => false,
-        Order::Greater => false,
+        Ordering::Less => true,
+        Ordering::Equal => false,
+        Ordering::Greater => false,
     }
 }
 

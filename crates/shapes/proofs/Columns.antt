@@ -11,7 +11,7 @@ use lib.Dec.{leb, ltb, eqb}
 use lib.ListN.{length, get_or, take, drop, get_elem?, length-map}
 use lib.Seq.{slice, length-slice, get_or-drop, get_or-take}
 use Rattle.model.specs.Choice.{every}
-use Rattle.model.specs.Shape.{Shape, record_of_lem, stored_topic, endpoint, approval, entity, pair, feature, Row, rows_of, row_at, is_required, any_required}
+use Rattle.model.specs.Shape.{Shape, record_of, stored_topic, endpoint, approval, entity, pair, feature, Row, rows_of, row_at, is_required, any_required}
 use Rattle.model.specs.declared.Kind.TheVariants.{Topic, Partition, BrokerRegistration, DeleteTopic, TopicConfig, BrokerConfig, ClientQuota, ProducerIds, UnregisterBroker, KRaftVersion, FeatureLevel, ClientMetricsConfig, FeaturesEpoch, PartitionDirAssignment}
 use Rattle.model.specs.declared.Kind.TheVariants.{PartitionOffsetAdvance, GroupConfig, ControllerRegistration, TopicFreeze, BreakGlassProposal, DeleteBreakGlassProposal, PartitionElr, PartitionRecovery, PartitionUpdate, BrokerRegistrationChange, UnregisterController, LogOffset}
 use Rattle.laws.specs.Choice.{and_left, and_right}
@@ -104,45 +104,45 @@ priors_at prior tag (row ∷ rows) (suc i) e h =
 abbrev row_numbers : ℕ → List ℕ
 row_numbers base = slice (base + 1) (base + 1 + fields_at base) table
 
-base_right_lem : ℕ → Bool
-base_right_lem base =
+base_right : ℕ → Bool
+base_right base =
     leb (base + 1 + fields_at base) row_count &&
     (eqb (prior_in (number_at base)) (last_required 0 1 (rows_from base)) && priors_right 0 1 (row_numbers base))
 
-base_right : (s : Shape) → base_right_lem (base_of s) ≡ true
-unfolding base_right_lem priors_right rows_from rows_of base_of Table.table Table.shapes Table.pack_shape Table.pack_rows last_required Table.form_code Table.form_size Table.how_often shape_at presence_of
-base_right (record_of_lem Topic) = refl
-base_right (record_of_lem Partition) = refl
-base_right (record_of_lem BrokerRegistration) = refl
-base_right (record_of_lem DeleteTopic) = refl
-base_right (record_of_lem TopicConfig) = refl
-base_right (record_of_lem BrokerConfig) = refl
-base_right (record_of_lem ClientQuota) = refl
-base_right (record_of_lem ProducerIds) = refl
-base_right (record_of_lem UnregisterBroker) = refl
-base_right (record_of_lem KRaftVersion) = refl
-base_right (record_of_lem FeatureLevel) = refl
-base_right (record_of_lem ClientMetricsConfig) = refl
-base_right (record_of_lem FeaturesEpoch) = refl
-base_right (record_of_lem PartitionDirAssignment) = refl
-base_right (record_of_lem PartitionOffsetAdvance) = refl
-base_right (record_of_lem GroupConfig) = refl
-base_right (record_of_lem ControllerRegistration) = refl
-base_right (record_of_lem TopicFreeze) = refl
-base_right (record_of_lem BreakGlassProposal) = refl
-base_right (record_of_lem DeleteBreakGlassProposal) = refl
-base_right (record_of_lem PartitionElr) = refl
-base_right (record_of_lem PartitionRecovery) = refl
-base_right (record_of_lem PartitionUpdate) = refl
-base_right (record_of_lem BrokerRegistrationChange) = refl
-base_right (record_of_lem UnregisterController) = refl
-base_right (record_of_lem LogOffset) = refl
-base_right stored_topic = refl
-base_right endpoint = refl
-base_right approval = refl
-base_right entity = refl
-base_right pair = refl
-base_right feature = refl
+bases_right : (s : Shape) → base_right (base_of s) ≡ true
+unfolding base_right priors_right rows_from rows_of base_of Table.table Table.shapes Table.pack_shape Table.pack_rows last_required Table.form_code Table.form_size Table.how_often shape_at presence_of
+bases_right (record_of Topic) = refl
+bases_right (record_of Partition) = refl
+bases_right (record_of BrokerRegistration) = refl
+bases_right (record_of DeleteTopic) = refl
+bases_right (record_of TopicConfig) = refl
+bases_right (record_of BrokerConfig) = refl
+bases_right (record_of ClientQuota) = refl
+bases_right (record_of ProducerIds) = refl
+bases_right (record_of UnregisterBroker) = refl
+bases_right (record_of KRaftVersion) = refl
+bases_right (record_of FeatureLevel) = refl
+bases_right (record_of ClientMetricsConfig) = refl
+bases_right (record_of FeaturesEpoch) = refl
+bases_right (record_of PartitionDirAssignment) = refl
+bases_right (record_of PartitionOffsetAdvance) = refl
+bases_right (record_of GroupConfig) = refl
+bases_right (record_of ControllerRegistration) = refl
+bases_right (record_of TopicFreeze) = refl
+bases_right (record_of BreakGlassProposal) = refl
+bases_right (record_of DeleteBreakGlassProposal) = refl
+bases_right (record_of PartitionElr) = refl
+bases_right (record_of PartitionRecovery) = refl
+bases_right (record_of PartitionUpdate) = refl
+bases_right (record_of BrokerRegistrationChange) = refl
+bases_right (record_of UnregisterController) = refl
+bases_right (record_of LogOffset) = refl
+bases_right stored_topic = refl
+bases_right endpoint = refl
+bases_right approval = refl
+bases_right entity = refl
+bases_right pair = refl
+bases_right feature = refl
 
 map_at : (rows : List ℕ) (i : ℕ) → i < length rows → get_elem? (map unpacked rows) i ≡ some (unpacked (get_or rows i 0))
 map_at [] i h = absurd (not-suc-le-zero h)
@@ -150,11 +150,11 @@ map_at (row ∷ rows) zero h = refl
 map_at (row ∷ rows) (suc i) h = map_at rows i (omega arith)
 
 module _ (s : Shape) {base : ℕ} (at : base ≡ base_of s) where
-  right : base_right_lem base ≡ true
-  right = rw at (base_right s)
+  right : base_right base ≡ true
+  right = rw at (bases_right s)
 
   fits : base + 1 + fields_at base ≤ length table
-  unfolding base_right_lem
+  unfolding base_right
   fits =
       let n = base + 1 + fields_at base in
       omega (arith, table-length, leb-true n row_count (and_left (leb n row_count) _ right))
@@ -187,7 +187,7 @@ module _ (s : Shape) {base : ℕ} (at : base ≡ base_of s) where
 
   -- whether a required row is after a tag, and before another
   pub prior_after : (last : ℕ) → ltb last (prior_in (number_at base)) ≡ any_required (drop last (rows_from base))
-  unfolding base_right_lem
+  unfolding base_right
   prior_after last =
       let rows = rows_from base in
       let prior = prior_in (number_at base) in
@@ -197,7 +197,7 @@ module _ (s : Shape) {base : ℕ} (at : base ≡ base_of s) where
 
   pub prior_between : (last tag : ℕ) → 0 < tag → tag ≤ fields_at base
       → ltb last (prior_in (number_at (base + tag))) ≡ any_required (slice last (tag - 1) (rows_from base))
-  unfolding base_right_lem rows_from
+  unfolding base_right rows_from
   prior_between last zero h k = absurd (not-suc-le-zero h)
   prior_between last (suc i) h k =
       let rows = rows_from base in

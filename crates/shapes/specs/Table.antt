@@ -4,44 +4,44 @@ use Rattle.std.specs.Prelude.{ℕ, zero, suc, ◌+◌, ◌*◌, ◌/◌, ◌%◌
 use Rattle.std.proofs.Math.Seq.{slice}
 use Rattle.model.specs.Choice.{given, joined}
 use Rattle.model.specs.Kind.{kind_of}
-use Rattle.model.specs.Shape.{Shape, record_of_lem, stored_topic, endpoint, approval, entity, pair, feature, Form, fixed, below, offset, text, map_key, raw, list, node_set, nested, Presence, required, optional, up_to, Row, rows_of, is_required, Source, shape_of, unknown}
+use Rattle.model.specs.Shape.{Shape, record_of, stored_topic, endpoint, approval, entity, pair, feature, Form, fixed, below, offset, text, map_key, raw, list, node_set, nested, Presence, required, optional, up_to, Row, rows_of, is_required, Source, shape_of, unknown}
 use Rattle.model.specs.declared.Kind.TheVariants.{Topic, Partition, BrokerRegistration, DeleteTopic, TopicConfig, BrokerConfig, ClientQuota, ProducerIds, UnregisterBroker, KRaftVersion, FeatureLevel, ClientMetricsConfig, FeaturesEpoch, PartitionDirAssignment}
 use Rattle.model.specs.declared.Kind.TheVariants.{PartitionOffsetAdvance, GroupConfig, ControllerRegistration, TopicFreeze, BreakGlassProposal, DeleteBreakGlassProposal, PartitionElr, PartitionRecovery, PartitionUpdate, BrokerRegistrationChange, UnregisterController, LogOffset}
 
 -- where a shape's rows begin
 unfoldable pub base_of : Shape → ℕ
-base_of (record_of_lem Topic) = 0
-base_of (record_of_lem Partition) = 5
-base_of (record_of_lem BrokerRegistration) = 16
-base_of (record_of_lem DeleteTopic) = 29
-base_of (record_of_lem TopicConfig) = 31
-base_of (record_of_lem BrokerConfig) = 34
-base_of (record_of_lem ClientQuota) = 38
-base_of (record_of_lem ProducerIds) = 42
-base_of (record_of_lem UnregisterBroker) = 46
-base_of (record_of_lem KRaftVersion) = 49
-base_of (record_of_lem FeatureLevel) = 51
-base_of (record_of_lem ClientMetricsConfig) = 54
-base_of (record_of_lem FeaturesEpoch) = 57
-base_of (record_of_lem PartitionDirAssignment) = 59
-base_of (record_of_lem PartitionOffsetAdvance) = 64
-base_of (record_of_lem GroupConfig) = 68
-base_of (record_of_lem ControllerRegistration) = 71
-base_of (record_of_lem TopicFreeze) = 77
-base_of (record_of_lem BreakGlassProposal) = 87
-base_of (record_of_lem DeleteBreakGlassProposal) = 98
-base_of (record_of_lem PartitionElr) = 100
-base_of (record_of_lem PartitionRecovery) = 105
-base_of (record_of_lem PartitionUpdate) = 109
-base_of (record_of_lem BrokerRegistrationChange) = 114
-base_of (record_of_lem UnregisterController) = 121
+base_of (record_of Topic) = 0
+base_of (record_of Partition) = 5
+base_of (record_of BrokerRegistration) = 16
+base_of (record_of DeleteTopic) = 29
+base_of (record_of TopicConfig) = 31
+base_of (record_of BrokerConfig) = 34
+base_of (record_of ClientQuota) = 38
+base_of (record_of ProducerIds) = 42
+base_of (record_of UnregisterBroker) = 46
+base_of (record_of KRaftVersion) = 49
+base_of (record_of FeatureLevel) = 51
+base_of (record_of ClientMetricsConfig) = 54
+base_of (record_of FeaturesEpoch) = 57
+base_of (record_of PartitionDirAssignment) = 59
+base_of (record_of PartitionOffsetAdvance) = 64
+base_of (record_of GroupConfig) = 68
+base_of (record_of ControllerRegistration) = 71
+base_of (record_of TopicFreeze) = 77
+base_of (record_of BreakGlassProposal) = 87
+base_of (record_of DeleteBreakGlassProposal) = 98
+base_of (record_of PartitionElr) = 100
+base_of (record_of PartitionRecovery) = 105
+base_of (record_of PartitionUpdate) = 109
+base_of (record_of BrokerRegistrationChange) = 114
+base_of (record_of UnregisterController) = 121
 base_of stored_topic = 123
 base_of endpoint = 129
 base_of approval = 134
 base_of entity = 139
 base_of pair = 142
 base_of feature = 145
-base_of (record_of_lem LogOffset) = 149
+base_of (record_of LogOffset) = 149
 
 abbrev pub row_count : ℕ
 row_count = 151
@@ -94,13 +94,13 @@ pack_shape rows = packed_row 0 (length rows) (last_required 0 1 rows) 0 ∷ pack
 
 unfoldable pub shapes : List Shape
 shapes =
-    record_of_lem Topic ∷ record_of_lem Partition ∷ record_of_lem BrokerRegistration ∷ record_of_lem DeleteTopic ∷ record_of_lem TopicConfig ∷ record_of_lem
-    BrokerConfig ∷ record_of_lem ClientQuota ∷ record_of_lem ProducerIds ∷ record_of_lem UnregisterBroker ∷ record_of_lem KRaftVersion ∷ record_of_lem
-    FeatureLevel ∷ record_of_lem ClientMetricsConfig ∷ record_of_lem FeaturesEpoch ∷ record_of_lem PartitionDirAssignment ∷ record_of_lem
-    PartitionOffsetAdvance ∷ record_of_lem GroupConfig ∷ record_of_lem ControllerRegistration ∷ record_of_lem TopicFreeze ∷ record_of_lem
-    BreakGlassProposal ∷ record_of_lem DeleteBreakGlassProposal ∷ record_of_lem PartitionElr ∷ record_of_lem PartitionRecovery ∷ record_of_lem
-    PartitionUpdate ∷ record_of_lem BrokerRegistrationChange ∷ record_of_lem UnregisterController ∷ stored_topic ∷ endpoint ∷ approval ∷ entity ∷
-    pair ∷ feature ∷ record_of_lem LogOffset ∷ []
+    record_of Topic ∷ record_of Partition ∷ record_of BrokerRegistration ∷ record_of DeleteTopic ∷ record_of TopicConfig ∷ record_of
+    BrokerConfig ∷ record_of ClientQuota ∷ record_of ProducerIds ∷ record_of UnregisterBroker ∷ record_of KRaftVersion ∷ record_of
+    FeatureLevel ∷ record_of ClientMetricsConfig ∷ record_of FeaturesEpoch ∷ record_of PartitionDirAssignment ∷ record_of
+    PartitionOffsetAdvance ∷ record_of GroupConfig ∷ record_of ControllerRegistration ∷ record_of TopicFreeze ∷ record_of
+    BreakGlassProposal ∷ record_of DeleteBreakGlassProposal ∷ record_of PartitionElr ∷ record_of PartitionRecovery ∷ record_of
+    PartitionUpdate ∷ record_of BrokerRegistrationChange ∷ record_of UnregisterController ∷ stored_topic ∷ endpoint ∷ approval ∷ entity ∷
+    pair ∷ feature ∷ record_of LogOffset ∷ []
 
 unfoldable pub table : List ℕ
 table = joined (λ s. pack_shape (rows_of s)) shapes
@@ -122,7 +122,7 @@ many_in row = row % 256
 -- the shape of a base, among those that stand within others
 unfoldable pub shape_at : ℕ → Shape
 shape_at n =
-    cond (eqb n 5) (record_of_lem Partition)
+    cond (eqb n 5) (record_of Partition)
     (cond (eqb n 129) endpoint (cond (eqb n 134) approval (cond (eqb n 139) entity (cond (eqb n 142) pair feature))))
 
 unfoldable pub form_of : ℕ → ℕ → Form

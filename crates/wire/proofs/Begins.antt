@@ -1,9 +1,8 @@
 -- A byte string begins with another where its first bytes are the other.
 use mathlib.Core.Path.{◌≡◌, refl, sym, ◌∙◌}
-use mathlib.Core.Bool.{Bool, true, false, ◌&&◌}
+use mathlib.Core.Bool.{◌&&◌}
 use mathlib.Core.List.{[], ◌∷◌}
-use Prim.Native.Nat.{◌<◌, Ordering, compare}
-use native.Mathlib.Omega.{arith}
+use Prim.Native.Nat.{Ordering, compare}
 use lib.Dec.{eqb}
 use lib.ListN.{length, take}
 use borrow.Author.Tests.{eq-eqb, ne_eqb}
@@ -23,14 +22,3 @@ begins_same (a ∷ prefix) (b ∷ s) = go (compare a b) refl (begins_same prefix
     go Ordering.lt q h = rw (ne_eqb a b (λ e. lt≢eq (sym q ∙ eq_compare a b e))) refl
     go Ordering.eq q h = rw (eq-eqb a b (numbers_total.eqv a b q)) h
     go Ordering.gt q h = rw (ne_eqb a b (λ e. eq≢gt (sym (eq_compare a b e) ∙ q))) refl
-
--- one that is shorter does not begin with it
-pub begins_short : (prefix s : Bytes) → length s < length prefix → false ≡ begins_with prefix s
-unfolding begins_with
-begins_short [] s h = absurd (omega arith)
-begins_short (a ∷ prefix) [] h = refl
-begins_short (a ∷ prefix) (b ∷ s) h = rw (← begins_short prefix s (omega arith)) (sym (no (eqb a b)))
-  where
-    no : (t : Bool) → t && false ≡ false
-    no true = refl
-    no false = refl

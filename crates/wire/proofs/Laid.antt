@@ -2,20 +2,17 @@
 use mathlib.Core.Path.{◌≡◌, sym, ◌∙◌}
 use mathlib.Core.List.{◌++◌, append_assoc, append-nil}
 use Prim.Native.Nat.{ℕ, zero, suc, ◌+◌, ◌-◌, ◌≤◌, ◌<◌}
-use native.Mathlib.Nat.{add-zero, add-suc}
+use native.Mathlib.Nat.{add-suc}
 use native.Mathlib.Numerals.{add-one}
 use native.Mathlib.Omega.{arith}
-use lib.ListN.{length, get_or, set, take, drop, replicate, length-drop, take-append-drop, get_or-append}
-use lib.Seq.{paste, paste-suc, drop-paste, take-length, drop-length, take-suc, drop-cons, set_at, drop-drop, get_or-drop, get_or-take, length-take-le}
+use lib.ListN.{length, get_or, set, take, drop, length-drop, take-append-drop, get_or-append}
+use lib.Seq.{paste, paste-suc, drop-paste, drop-length, take-suc, drop-cons, set_at, drop-drop, get_or-drop, get_or-take, length-take-le}
 use Rattle.model.specs.Number.{Bytes}
 
 -- from the front
-pub paste-step : (w : Bytes) (at : ℕ) (s : Bytes) (i : ℕ) → at + i < length w → i < length s
+paste-step : (w : Bytes) (at : ℕ) (s : Bytes) (i : ℕ) → at + i < length w → i < length s
     → set (paste w at s i) (at + i) (get_or s i 0) ≡ paste w at s (i + 1)
 paste-step w at s i h k = rw add-one (paste-suc w at s i 0 h k)
-
-pub paste_all : (w : Bytes) (at : ℕ) (s : Bytes) (i : ℕ) → i ≡ length s → paste w at s i ≡ take at w ++ s ++ drop (at + length s) w
-paste_all w at s i e = rw (e, take-length)
 
 -- what is stored where it stands already changes nothing
 pub paste-same : (w : Bytes) (to from n : ℕ) → to ≡ from → w ≡ paste w to (drop from w) n
@@ -60,9 +57,6 @@ module _ (w : Bytes) (at : ℕ) (s : Bytes) (n : ℕ) where
   laid-step zero x e h k l q = absurd (omega arith)
   laid-step (suc j) x e h k l q = let p : suc j - 1 ≡ j = omega arith in rw (q, p) (laid-suc j e h l)
 
-  pub laid-all : (i : ℕ) → i ≡ 0 → laid w at s n i ≡ take at w ++ s ++ drop (at + n) w
-  laid-all i e = rw (e, add-zero)
-
   -- what stands before the part that is stored
   laid-before : (i k : ℕ) → at + n ≤ length w → i ≤ n → k < at + i → get_or (laid w at s n i) k 0 ≡ get_or w k 0
   laid-before i k h l m =
@@ -74,7 +68,7 @@ module _ (w : Bytes) (at : ℕ) (s : Bytes) (n : ℕ) where
 abbrev pub part : Bytes → ℕ → ℕ → Bytes
 part w from n = take n (drop from w)
 
-pub length_part : (w : Bytes) (from n : ℕ) → from + n ≤ length w → length (part w from n) ≡ n
+length_part : (w : Bytes) (from n : ℕ) → from + n ≤ length w → length (part w from n) ≡ n
 length_part w from n h = length-take-le n (drop from w) (simp length-drop (omega arith))
 
 -- moving up reads before what it has stored
@@ -86,7 +80,3 @@ up_step w from to n i h k l m =
     let j : i - 1 < n = omega arith in
     laid-step w to s n i _ (length_part w from n (omega arith)) k l m
     (laid-before w to s n i (from + (i - 1)) k m (omega arith) ∙ sym (get_or-take n (drop from w) (i - 1) 0 j ∙ get_or-drop from w (i - 1) 0))
-
--- a list filled whole
-pub fill-all : (s : Bytes) (i x : ℕ) → i ≡ length s → replicate i x ++ drop i s ≡ replicate (length s) x
-fill-all s i x e = rw (e, drop-length, append-nil)

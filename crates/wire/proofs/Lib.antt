@@ -1,7 +1,6 @@
 pub mod Numbers
 pub mod Rest
 pub mod Laid
-pub mod Leads
-pub mod Ranges
+pub mod Compared
 pub mod Begins
-pub mod Words
+pub mod Utf8

@@ -1,5 +1,4 @@
--- A number byte by byte. Reading: what is read so far, followed by the bytes still to come, spells the whole. Writing: the bytes still to
--- write are those of what is left of the number.
+-- A number byte by byte: what is read stays below the width's span, and the bytes still to write are those of what is left of the number.
 use mathlib.Core.Path.{◌≡◌, sym, ap, ◌∙◌}
 use mathlib.Core.List.{[], ◌∷◌}
 use Prim.Native.Nat.{ℕ, zero, suc, ◌+◌, ◌-◌, ◌*◌, ◌/◌, ◌%◌, ◌^◌, ◌≤◌, ◌<◌}
@@ -9,7 +8,7 @@ use native.Mathlib.Omega.{arith}
 use lib.ListN.{length, get_or, take}
 use lib.Seq.{slice, slice-cons, slice_empty, get_or_at, get_or-take, take_at, take-take, take_all}
 use lib.Dec.{lit<}
-use Rattle.model.specs.Number.{Bytes, spelt, number, bytes, span}
+use Rattle.model.specs.Number.{Bytes, number, bytes, span}
 use Rattle.laws.specs.Numbers as laws
 use Rattle.laws.specs.Numbers.{length-bytes}
 
@@ -17,23 +16,12 @@ use Rattle.laws.specs.Numbers.{length-bytes}
 pub slice-step : (s : Bytes) (from upto : ℕ) → from < upto → upto ≤ length s → slice from upto s ≡ get_or s from 0 ∷ slice (from + 1) upto s
 slice-step s from upto h k = rw add-one (slice-cons from upto s 0 h k)
 
-pub span-step : (v x i : ℕ) → v < span i → x < 256 → v * 256 + x < span (i + 1)
+span-step : (v x i : ℕ) → v < span i → x < 256 → v * 256 + x < span (i + 1)
 span-step v x i h k = rw add-one (laws.span-step v x i h k)
 
 pub span_fits : (v x i width : ℕ) → v < span i → x < 256 → i < width → width ≤ 8 → v * 256 + x < 2 ^ 64
 span_fits v x i width h k l m =
     lt_of_lt_of_le (span-step v x i h k) (pow-le-pow_right {n = 256} (lit< tt) {i = i + 1} {j = 8} (omega arith))
-
--- a turn, and the end
-pub spelt-step : (s : Bytes) (at width v i x all : ℕ) → i < width → at + width ≤ length s → x ≡ get_or s (at + i) 0
-    → spelt v (slice (at + i) (at + width) s) ≡ all → spelt (v * 256 + x) (slice (at + (i + 1)) (at + width) s) ≡ all
-spelt-step s at width v i x all h k e w =
-    let a : at + i < at + width = omega arith in
-    let q : at + (i + 1) ≡ at + i + 1 = omega arith in
-    rw (e, q) (rw (slice-step s (at + i) (at + width)) at w)
-
-pub spelt-end : (s : Bytes) (at width v i all : ℕ) → i ≡ width → spelt v (slice (at + i) (at + width) s) ≡ all → v ≡ all
-spelt-end s at width v i all e w = rw (e, slice_empty) at w
 
 -- two bytes
 pub number_pair : (s : Bytes) (at x y : ℕ) → at + 2 ≤ length s → x ≡ get_or s at 0 → y ≡ get_or s (at + 1) 0

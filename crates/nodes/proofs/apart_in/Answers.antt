@@ -1,23 +1,22 @@
-use mathlib.Core.Path.{sym, ◌∙◌}
-use Prim.Native.Nat.{◌/◌}
-use native.Mathlib.Omega.{arith}
-use lib.ListN.{length}
-use Rattle.model.specs.Nodes.{nodes_of}
+-- `nodes::apart_in` meets its contract: `all` tells of every place, and so of every number.
+use mathlib.Core.Path.{refl, sym, ◌∙◌}
 use Rattle.laws.specs.Nodes.{length-nodes}
-use Rattle.nodes.proofs.Numbers.{apart_met, apart_new, apart_end}
+use mathlib.Core.Bool.{not}
+use Prim.Native.Nat.{ℕ, ◌+◌, ◌/◌}
+use native.Mathlib.Omega.{arith}
+use lib.ListN.{length, get_or, drop}
+use Rattle.std.proofs.Common.{rules, tests}
+use Rattle.std.proofs.lemmas.Iterator.{YieldsList-from_range}
+use Rattle.std.proofs.lemmas.Iterator.Search.{all_from_yields_List}
+use Rattle.model.specs.Nodes.{nodes_of, is_among}
+use Rattle.nodes.proofs.Numbers.{apart_places}
 use Rattle.nodes.proofs.apart_in.Goals as goal
-
-pub returns-then-comes_again : goal.returns-then-comes_again
-returns-then-comes_again c =
-    let v = c.args.v.now in
-    sym (apart_met (nodes_of v) c.loop-i.i (omega (arith, length-nodes (length v / 8) v)) c.comes_again.ensures c.if-comes_again.true) ∙ c.loop-i.invariant
-
-pub loop-i-preserved : goal.loop-i-preserved
-loop-i-preserved c =
-    let v = c.args.v.now in
-    sym (apart_new (nodes_of v) c.loop-i.i (omega (arith, length-nodes (length v / 8) v)) c.comes_again.ensures c.if-comes_again.false) ∙ c.loop-i.invariant
 
 pub returns : goal.returns
 returns c =
     let v = c.args.v.now in
-    sym (apart_end (nodes_of v) c.loop-i.i (omega (arith, length-nodes (length v / 8) v))) ∙ c.loop-i.invariant
+    let count = length v / 8 in
+    let l = nodes_of v in
+    all_from_yields_List (λ (j : ℕ). not (is_among (get_or l j 0) (drop (j + 1) l))) _ _ _ c.all.ensures.ran (YieldsList-from_range 0 count count refl (omega arith))
+    (λ x b q k. search (rules, tests))
+    ∙ apart_places l count (sym (length-nodes count v))

@@ -1,12 +1,8 @@
 -- `nodes::load` meets its contract. The invariant: the nodes before the i-th are there.
 use mathlib.Core.Path.{◌≡◌}
-use Prim.Native.Nat.{◌-◌}
-use lib.ListN.{length}
-use Rattle.nodes.proofs.Numbers.{Loaded}
+use lib.ListN.{take}
+use Rattle.model.specs.Nodes.{nodes_from}
 use Rattle.nodes.proofs.load.Given as goal
 
 abbrev pub invariant-loop-i : goal.invariant-loop-i
-invariant-loop-i l = Loaded l.v l.count l.i l.nodes × (length l.nodes ≡ length l.initial.nodes)
-
-abbrev pub decreases-loop-i : goal.decreases-loop-i
-decreases-loop-i l = l.count - l.i
+invariant-loop-i l = take l.i l.node-items ≡ nodes_from l.i l.v

@@ -1,29 +1,34 @@
 use Prim.Native.Nat.{◌+◌, ◌*◌, ◌^◌, ◌<◌}
-use mathlib.Core.Path.{◌≡◌}
+use mathlib.Core.Path.{◌≡◌, ap, ◌∙◌}
 use native.Mathlib.Omega.{arith}
 use lib.Dec.{lit<}
-use native.Mathlib.Nat.{add-zero}
-use Rattle.wire.proofs.Numbers.{span-step, span_fits, spelt-step, spelt-end}
+use Rattle.std.specs.List.{between}
+use Rattle.std.proofs.lemmas.List.{drop_all}
+use Rattle.std.proofs.lemmas.List.Edits.{length-between}
+use Rattle.std.proofs.lemmas.Slice.{between_is}
+use Rattle.model.specs.Number.{number}
+use Rattle.wire.proofs.Numbers.{span_fits}
 use Rattle.wire.proofs.get.Goals as goal
 
-pub loop-i-init : goal.loop-i-init
-loop-i-init c = (omega arith, lit< tt, rw add-zero)
-
 pub overflow_mul-v : goal.overflow_mul-v
-overflow_mul-v c = let l = c.loop-i in
-    let b : l.v * 256 + 0 < 2 ^ 64 = span_fits _ 0 _ _ l.invariant.1 (lit< tt) c.loop-i-test.true (omega arith) in omega arith
+overflow_mul-v c =
+    let long = length-between c.args.s.now c.args.at (c.args.at + c.args.width) c.requires.1 in
+    let l = c.loop-x in
+    let b : l.v * 256 + 0 < 2 ^ 64 = span_fits _ 0 l.x-index c.args.width l.invariant.0 (lit< tt) (omega arith) (omega arith) in omega arith
 
 pub overflow_add-v : goal.overflow_add-v
-overflow_add-v c = let l = c.loop-i in
-    let x : c.wide.result < 256 = omega (arith, c.shared_slice_known-1.given (c.args.at + l.i)) in
-    record { fits = span_fits _ _ _ _ l.invariant.1 x c.loop-i-test.true (omega arith) }
-
-pub loop-i-preserved : goal.loop-i-preserved
-loop-i-preserved c = let l = c.loop-i in
-    let x : c.wide.result < 256 = omega (arith, c.shared_slice_known-1.given (c.args.at + l.i)) in
-    (omega arith, span-step _ _ _ l.invariant.1 x, spelt-step _ _ _ _ _ _ _ c.loop-i-test.true (omega arith) c.wide.ensures l.invariant.2)
+overflow_add-v c =
+    let long = length-between c.args.s.now c.args.at (c.args.at + c.args.width) c.requires.1 in
+    let l = c.loop-x in
+    record { fits = span_fits _ _ l.x-index c.args.width l.invariant.0 (omega arith) (omega arith) (omega arith) }
 
 pub returns : goal.returns
-returns c = let l = c.loop-i in
-    let e : l.i ≡ c.args.width = omega arith in
-    (spelt-end _ _ _ _ _ _ e l.invariant.2, rw (← e) l.invariant.1)
+returns c =
+    let s = c.args.s.now in
+    let end = c.args.at + c.args.width in
+    let long = length-between s c.args.at end c.requires.1 in
+    let l = c.loop-x in
+    let done : l.x-index ≡ c.args.width = omega arith in
+    let none = drop_all l.x-index (between c.args.at end s) (omega arith) in
+    let told = rw none at l.invariant.1 in
+    (told ∙ ap number (between_is s c.args.at end), rw done at l.invariant.0)

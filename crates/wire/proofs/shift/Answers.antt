@@ -1,6 +1,7 @@
--- `wire::shift` meets its contract.
+-- `wire::shift` meets its contract: where the two places are one, nothing moves.
+use Rattle.std.proofs.lemmas.Cmp.{ranked}
 use Rattle.wire.proofs.Laid.{paste-same}
 use Rattle.wire.proofs.shift.Goals as goal
 
-pub returns-then-to-from : goal.returns-then-to-from
-returns-then-to-from c = paste-same _ _ _ c.args.n c.if-to-from.true
+pub returns-in-Equal : goal.returns-in-Equal
+returns-in-Equal c = paste-same _ _ _ c.args.n (ranked _ _ _ c.in-Equal.ensures)

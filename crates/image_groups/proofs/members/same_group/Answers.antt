@@ -2,7 +2,7 @@
 use mathlib.Core.Path.{sym}
 use native.Mathlib.Omega.{arith}
 use lib.Seq.{length-take-le}
-use Rattle.model.specs.declared.Order.TheVariants.{Less, Equal, Greater}
+use Rattle.std.specs.declared.cmp.Ordering.TheVariants.{Less, Equal, Greater}
 use Rattle.entries.proofs.Changes.{is_keyed}
 use Rattle.image_groups.proofs.Membership.{other_kind, cut_keyed, member_told}
 use Rattle.image_groups.proofs.members.same_group.Goals as goal
