@@ -629,7 +629,7 @@ def point4(tree):
             if m and len(re.findall(r";", block)) <= 4 and not re.search(r"\bif\b", block):
                 found.append(Place(fn.file.place(at), f"elements set one by one in {fn.name}", "copying", fn.name))
         for at, on, arms in matches_in(fn):
-            orders = [(p, e) for p, e in arms if re.match(r"Order::(Less|Equal|Greater)", p)]
+            orders = [(p, e) for p, e in arms if re.match(r"Order(?:ing)?::(Less|Equal|Greater)", p)]
             if len(orders) >= 3:
                 values = [e for _, e in orders]
                 if all(v in ("true", "false") for v in values):
@@ -642,7 +642,7 @@ def point4(tree):
             mapped = [(p, e) for p, e in arms if re.match(r"(?:kinds::|Kind::|Source::|\d)", p) and (re.fullmatch(r"\d+|0x\w+|(?:\w+::)*[A-Z]\w*|true|false", e) or re.fullmatch(r"\w+::\w+\(Kind::\w+\)", e))]
             if len(mapped) >= 3 and len(mapped) * 2 >= len(arms):
                 found.append(Place(fn.file.place(at), f"match {on}, {len(arms)} arms from kinds to values, in {fn.name}", "conversion", fn.name))
-        m = re.findall(r"if (\w+) < (\w+) \{\s*return Order::Less;\s*\}\s*if \2 < \1 \{\s*return Order::Greater;", fn.body)
+        m = re.findall(r"if (\w+) < (\w+) \{\s*return Order(?:ing)?::Less;\s*\}\s*if \2 < \1 \{\s*return Order(?:ing)?::Greater;", fn.body)
         if m:
             found.append(Place(fn.place(), f"two numbers compared by hand in {fn.name}", "order", fn.name))
         if fn.name in ("compare", "same", "same_words", "begins_with", "lower", "is_same", "slots_equal") and fn.file.crate in ("wire", "tool_course"):
@@ -675,7 +675,7 @@ def second4(tree):
     n = collections.Counter()
     for f in tree.files:
         lines = f.code.split("\n")
-        n["lines `Order::Less =>`"] += sum("Order::Less =>" in l for l in lines)
+        n["lines `Order::Less =>`"] += sum("Order::Less =>" in l or "Ordering::Less =>" in l for l in lines)
         n["calls of wire::same, compare, copy, clear, begins_with, is_clear"] += sum(len(re.findall(r"\b(?:wire::)?(?:same|compare|copy|clear|begins_with|is_clear)\(", l)) for l in lines if not re.search(r"\bfn ", l))
         n["functions say_*, print_*, complain*, fail"] += sum(bool(re.search(r"\bfn (say|print|complain|fail)(_\w+)?[(<]", l)) for l in lines)
         n["lines `kinds::X => ` or `Kind::X => `"] += sum(bool(re.match(r"\s*(\| )?[kK]inds?::\w+ =>", l)) for l in lines)

@@ -49,7 +49,7 @@ nodes_more (suc i) v =
     rw (e, nodes_more i (drop 8 v), slice-shift i v)
 
 -- the node at a place
-node_at_lem : (count i : ℕ) (v : Bytes) → i < count → get_or (nodes_from count v) i 0 ≡ number (slice (i * 8) (i * 8 + 8) v)
+pub node_at_lem : (count i : ℕ) (v : Bytes) → i < count → get_or (nodes_from count v) i 0 ≡ number (slice (i * 8) (i * 8 + 8) v)
 unfolding nodes_from
 node_at_lem zero i v h = absurd (omega arith)
 node_at_lem (suc count) zero v h = refl

@@ -10,7 +10,7 @@ use lib.Seq.{paste, paste-suc, drop-paste, drop-length, take-suc, drop-cons, set
 use Rattle.model.specs.Number.{Bytes}
 
 -- from the front
-paste-step : (w : Bytes) (at : ℕ) (s : Bytes) (i : ℕ) → at + i < length w → i < length s
+pub paste-step : (w : Bytes) (at : ℕ) (s : Bytes) (i : ℕ) → at + i < length w → i < length s
     → set (paste w at s i) (at + i) (get_or s i 0) ≡ paste w at s (i + 1)
 paste-step w at s i h k = rw add-one (paste-suc w at s i 0 h k)
 
@@ -68,7 +68,7 @@ module _ (w : Bytes) (at : ℕ) (s : Bytes) (n : ℕ) where
 abbrev pub part : Bytes → ℕ → ℕ → Bytes
 part w from n = take n (drop from w)
 
-length_part : (w : Bytes) (from n : ℕ) → from + n ≤ length w → length (part w from n) ≡ n
+pub length_part : (w : Bytes) (from n : ℕ) → from + n ≤ length w → length (part w from n) ≡ n
 length_part w from n h = length-take-le n (drop from w) (simp length-drop (omega arith))
 
 -- moving up reads before what it has stored

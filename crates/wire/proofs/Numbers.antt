@@ -16,7 +16,7 @@ use Rattle.laws.specs.Numbers.{length-bytes}
 pub slice-step : (s : Bytes) (from upto : ℕ) → from < upto → upto ≤ length s → slice from upto s ≡ get_or s from 0 ∷ slice (from + 1) upto s
 slice-step s from upto h k = rw add-one (slice-cons from upto s 0 h k)
 
-span-step : (v x i : ℕ) → v < span i → x < 256 → v * 256 + x < span (i + 1)
+pub span-step : (v x i : ℕ) → v < span i → x < 256 → v * 256 + x < span (i + 1)
 span-step v x i h k = rw add-one (laws.span-step v x i h k)
 
 pub span_fits : (v x i width : ℕ) → v < span i → x < 256 → i < width → width ≤ 8 → v * 256 + x < 2 ^ 64

@@ -101,15 +101,17 @@ pub fn begins_with(s: &[u8], prefix: &[u8]) -> bool
     s.starts_with(prefix)
 }
 
-// Copies all of `src` into `dst` from `at` on.
+// Copies all of `src` into `dst` from `at` on. Not by `copy_from_slice`, which calls `memmove`: the library for C needs `memcpy` and `memset` alone.
 pub fn copy(dst: &mut [u8], at: usize, src: &[u8])
     requires { at + length src.now ≤ length dst.old }
     ensures { dst.new ≡ take at dst.old ++ src.now ++ drop (at + length src.now) dst.old }
 {
-    dst[at..at + src.len()].copy_from_slice(src);
+    for i in 0..src.len() {
+        dst[at + i] = src[i];
+    }
 }
 
-// Moves the n bytes from `from` to `to`, which is not past it. The library has no move inside a slice, so this and the next are loops.
+// Moves the n bytes from `from` to `to`, which is not past it.
 fn shift_down(w: &mut [u8], from: usize, to: usize, n: usize)
     requires { (to ≤ from) × (from + n ≤ length w.old) }
     ensures { w.new ≡ paste w.old to (drop from w.old) n }
@@ -152,7 +154,12 @@ pub fn clear(s: &mut [u8])
 pub fn is_clear(s: &[u8]) -> bool
     ensures { result ≡ every (λ x. eqb x 0) s.now }
 {
-    s.iter().all(|x| *x == 0)
+    for x in s {
+        if *x != 0 {
+            return false;
+        }
+    }
+    true
 }
 
 // Whether the bytes are UTF-8.
